@@ -1,7 +1,6 @@
 -- The lists of a group: the list at a place, that the lists agree, and what an event does to them.
-use Rattle.std.proofs.Common.{Err, List, Ok, Result, [], ap, arith, inl, inr, length, map, refl}
+use Rattle.std.proofs.Common.{Err, List, Ok, Result, [], ap, arith, length, map, refl}
 use Rattle.std.proofs.Common.{slice_index_or, subst, suc, sym, zero, ℕ, ◌-◌, ◌<◌, ◌∙◌, ◌∷◌, ◌≡◌}
-use Rattle.std.proofs.Common.{◌⊎◌}
 use Rattle.urb_group.proofs.steps.DraftsInSteps.{step-size}
 use Rattle.urb_group.proofs.shown.Deliveries.{deliveries-grow, sound-after}
 use Rattle.urb_group.specs.GroupCalls.{ComesUp, Commits, GoesDown, Takes, Ticks}
@@ -118,48 +117,51 @@ module _ (old new : GroupView) (event : Event) (sound : IsSound old)
         lengths = house.lengths;
       }
 
--- the event happened in every world that the group showed, or the group is unchanged
-abbrev pub MayFollow : GroupView → Event → GroupView → Type 0
-MayFollow old event new = Follows old event new ⊎ (new ≡ old)
+-- the event happened in every world that the group showed, or the call was refused, and the group
+-- is unchanged
+abbrev pub MayFollow : {T E : Type 0} → GroupView → Event → Result T E → GroupView → Type 0
+MayFollow old event (Ok done) new = Follows old event new
+MayFollow old event (Err refused) new = new ≡ old
 
 -- a house stays one through an event of its group, or if its group is unchanged
-pub house_after : (old new : GroupView) (event : Event) (prepared : Lists) (counts : List ℕ)
-    → IsHouse old prepared counts → length new.nodes ≡ new.size.n → MayFollow old event new
-    → IsHouse new prepared counts
-house_after old new event prepared counts house after (inl follows) =
+pub house_after : {T E : Type 0} (old new : GroupView) (event : Event) (r : Result T E)
+    (prepared : Lists) (counts : List ℕ) → IsHouse old prepared counts
+    → length new.nodes ≡ new.size.n → MayFollow old event r new → IsHouse new prepared counts
+house_after old new event (Ok done) prepared counts house after follows =
     follows_house old new event house.sound follows prepared counts house after
-house_after old new event prepared counts house after (inr same) =
+house_after old new event (Err refused) prepared counts house after same =
     subst (λ (g : GroupView). IsHouse g prepared counts) (sym same) house
 
 -- ---- what each call says
 
 -- after a submit or an arrival the group follows its event or is unchanged
 pub takes_follow : {A : Type 0} (old new : GroupView) (p : ℕ) (event : Event)
-    (r : Result (Taken A) Refusal) → Takes old p event r new → MayFollow old event new
-takes_follow old new p event (Ok (taken.Same answer)) h = inl (λ w s. (h w s).shows)
-takes_follow old new p event (Ok (taken.Store draft)) h = inl (λ w s. (h.0 w s).shows)
-takes_follow old new p event (Err refusal) h = inr h.1
+    (r : Result (Taken A) Refusal) → Takes old p event r new → MayFollow old event r new
+takes_follow old new p event (Ok (taken.Same answer)) h = λ w s. (h w s).shows
+takes_follow old new p event (Ok (taken.Store draft)) h = λ w s. (h.0 w s).shows
+takes_follow old new p event (Err refusal) h = h.1
 
 -- after a receipt the group follows its event or is unchanged
 pub commits_follow : (old new : GroupView) (receipt : Placed) (r : Result Done (Placed × Refusal))
-    → Commits old receipt r new → MayFollow old (Commit receipt.node receipt.pos receipt.entry) new
-commits_follow old new receipt (Ok done) h = inl (λ w s. (h w s).shows)
-commits_follow old new receipt (Err e) h = inr h.0.1
+    → Commits old receipt r new
+    → MayFollow old (Commit receipt.node receipt.pos receipt.entry) r new
+commits_follow old new receipt (Ok done) h = λ w s. (h w s).shows
+commits_follow old new receipt (Err e) h = h.0.1
 
 -- after a tick the group follows its event or is unchanged
 pub ticks_follow : (old new : GroupView) (event : Event) (r : Result (List Carried) Refusal)
-    → Ticks old event r new → MayFollow old event new
-ticks_follow old new event (Ok packets) h = inl (λ w s. (h w s).shows)
-ticks_follow old new event (Err refusal) h = inr h.1
+    → Ticks old event r new → MayFollow old event r new
+ticks_follow old new event (Ok packets) h = λ w s. (h w s).shows
+ticks_follow old new event (Err refusal) h = h.1
 
 -- after a failed store or a crash the group follows its event or is unchanged
 pub goes_down_follow : (old new : GroupView) (p : ℕ) (event : Event) (r : Result (Unit {0}) Refusal)
-    → GoesDown old p event r new → MayFollow old event new
-goes_down_follow old new p event (Ok done) h = inl (λ w s. (h w s).shows)
-goes_down_follow old new p event (Err refusal) h = inr h.1
+    → GoesDown old p event r new → MayFollow old event r new
+goes_down_follow old new p event (Ok done) h = λ w s. (h w s).shows
+goes_down_follow old new p event (Err refusal) h = h.1
 
 -- after a restart the group follows its event or is unchanged
 pub comes_up_follow : (old new : GroupView) (p : ℕ) (event : Event) (r : Result (Unit {0}) Refusal)
-    → ComesUp old p event r new → MayFollow old event new
-comes_up_follow old new p event (Ok done) h = inl (λ w s. (h w s).shows)
-comes_up_follow old new p event (Err refusal) h = inr h.1
+    → ComesUp old p event r new → MayFollow old event r new
+comes_up_follow old new p event (Ok done) h = λ w s. (h w s).shows
+comes_up_follow old new p event (Err refusal) h = h.1

@@ -6,18 +6,17 @@ use Rattle.std.proofs.lemmas.Bool.Decides.{nat_tests}
 use mathlib.Core.List.{IsPrefix}
 use prog.Atomic.{either}
 use Rattle.logbook.specs.Pages.{Cell, cell, keeps, no_nib, step, Moves, Goes}
-use Rattle.urb_show.specs.declared.entry.Addition.{Addition}
 use Rattle.urb_show.specs.internal.History.{IsKept, Adds}
 use Rattle.urb_show.proofs.Prefixes.{prefix_whole}
 
-abbrev pub shown : List Addition → List Addition
+abbrev pub shown : {E : Type 0} → List E → List E
 shown log = []
 
-abbrev pub moved : List Addition → List Addition → ℕ → Type 0
+abbrev pub moved : {E : Type 0} → List E → List E → ℕ → Type 0
 moved xs ys n = Unit {0}
 
 -- the exchange adds the entry if the history is as long as was seen, and otherwise finds it longer
-pub adds_goes : (log v : List Addition) (e : Addition) (old : ℕ) → length v ≡ old → IsPrefix v log
+pub adds_goes : {E : Type 0} (log v : List E) (e : E) (old : ℕ) → length v ≡ old → IsPrefix v log
     → (b : Bool) → (length log == old) ≡ b
     → Goes IsKept shown moved 0 (v, (no_nib, None)) (λ n. either (n == old) (old + 1) n)
     (Adds (step 0 old (old + 1) e) (v, (no_nib, None)))
@@ -50,7 +49,7 @@ adds_goes log v e old len pre false is =
 
 -- for any book, the exchange adds the entry to all that was seen, or finds that the history is
 -- longer
-pub adds_moves : (v : List Addition) (e : Addition) (old : ℕ) → length v ≡ old
+pub adds_moves : {E : Type 0} (v : List E) (e : E) (old : ℕ) → length v ≡ old
     → Moves IsKept shown moved 0 (v, (no_nib, None)) (λ n. either (n == old) (old + 1) n)
     (Adds (step 0 old (old + 1) e) (v, (no_nib, None)))
 adds_moves v e old len cs log kept pre away =

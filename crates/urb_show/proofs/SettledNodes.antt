@@ -21,6 +21,7 @@ settles place old mid new (Ok told) grew begins whole h =
     record {
       group = ap (λ (x : HouseView). x.group) h.0 ∙ grew.group;
       events = ap (λ (x : HouseView). x.events) h.0 ∙ grew.events;
+      past = ap (λ (x : HouseView). x.past) h.0 ∙ grew.past;
       own =
           ap (λ (w : Lists). list_at w place) published
           ∙ (own ∙ sym (ap (λ (x : HouseView). list_at (lists_in x.group) place) h.0));

@@ -1,5 +1,6 @@
 pub mod Lists
 pub mod Houses
+pub mod Pasts
 pub mod Readers
 pub mod Pages
 pub mod ReadFaults

@@ -1,5 +1,6 @@
 pub mod PreparedLists
 pub mod History
+pub mod Pasts
 pub mod Operations
 pub mod PublishingRule
 pub mod Examples

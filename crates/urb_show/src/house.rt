@@ -1,13 +1,16 @@
 //! The House: the group together with its published logs.
-ghost use Rattle.std.specs.Prelude.{◌≡◌, ◌<◌, ◌≤◌, ◌-◌, length, MatchBool, MatchResult};
+ghost use Rattle.std.specs.Prelude.{◌≡◌, ◌<◌, ◌≤◌, ◌-◌, ◌^◌, length, MatchBool, MatchResult};
 ghost use Rattle.urb_group.specs.GroupViews.{IsSound};
 ghost use Rattle.urb_show.specs.Lists.{Agree, Begins, list_at, lists_in};
 ghost use Rattle.urb_show.specs.Houses.{Grew, Settled};
+ghost use Rattle.urb_show.specs.Pasts.{IsLedTo, IsReachedBy};
 ghost use Rattle.urb_show.specs.internal.PreparedLists.{GrewByOne, Lacks};
 
 use crate::entry::Addition;
 use crate::group_entries::{entry_at, entry_count};
-use crate::history::tokens::HouseName;
+use crate::history::calls::Happening;
+use crate::history::past::Past;
+use crate::history::tokens::{Book, EventToken, HouseName, OfEvents};
 use crate::publisher::Publisher;
 use crate::reader::Told;
 use std::alloc::{Allocator, Global};
@@ -27,12 +30,18 @@ pub struct House<K: HouseName, A: Allocator = Global> {
     // The length of each prepared list.
     pub(crate) prepared: Vec<usize>,
     pub(crate) events: u64,
+    // All events, in proofs alone.
+    pub(crate) past: Past,
+    // The history that all threads share, and its events.
+    pub(crate) history: Book<Happening, OfEvents<K>>,
+    pub(crate) told: EventToken<K>,
 }
 
 impl<K: HouseName, A: Allocator> Model for House<K, A> {
+    ghost use mathlib.Core.List.{IsPrefix};
     ghost use Rattle.urb_show.specs.Additions.{lists_of};
     ghost use Rattle.urb_show.specs.Houses.{HouseView};
-    ghost use Rattle.urb_show.specs.internal.PreparedLists.{IsHouse};
+    ghost use Rattle.urb_show.specs.internal.PreparedLists.{HasPast, IsHouse};
 
     ghost Value = { HouseView };
 
@@ -41,15 +50,18 @@ impl<K: HouseName, A: Allocator> Model for House<K, A> {
       published = lists_of K.base h.publisher.shown;
       prepared = lists_of K.base h.publisher.all;
       events = h.events;
+      past = h.past;
     } };
 
-    ghost invariant = { λ h. IsHouse h.group (lists_of K.base h.publisher.all) h.prepared.items };
+    ghost invariant = { λ h. IsHouse h.group (lists_of K.base h.publisher.all) h.prepared.items
+        × HasPast K.origin h.past h.events h.group
+        × IsPrefix h.told h.past };
 }
 
 impl<K: HouseName, A: Allocator> House<K, A> {
     /// Does nothing at run time; it brings the value's invariant into the proof. The group is
     /// sound, each published list is a prefix of what its node has delivered, and what the nodes
-    /// have delivered agrees.
+    /// have delivered agrees. The group is what the events have made of the group that was opened.
     pub fn recall(&self)
         ensures sound { IsSound self.now.group }
         // there is a list for each node
@@ -62,6 +74,11 @@ impl<K: HouseName, A: Allocator> House<K, A> {
         ensures prepared { Begins self.now.prepared (lists_in self.now.group) }
         ensures begins { Begins self.now.published (lists_in self.now.group) }
         ensures agree { Agree (lists_in self.now.group) }
+        // The opened group showed some world. Each such world, after the past, is shown now.
+        ensures origin { IsSound K.origin }
+        ensures past { IsLedTo K.origin self.now.past self.now.group }
+        ensures reached { IsReachedBy K.origin self.now.past }
+        ensures events { self.now.events < 2 ^ 64 - 1 → self.now.events ≡ length self.now.past }
     {
         let _ = self.publisher.len();
         self.group.recall_deliveries();
@@ -135,6 +152,9 @@ impl<K: HouseName, A: Allocator> House<K, A> {
             publisher,
             prepared: _,
             events: _,
+            past: _,
+            history: _,
+            told: _,
         } = self;
         publisher.close(rt);
         group

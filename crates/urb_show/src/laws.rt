@@ -1,9 +1,15 @@
-//! The laws about what readers see. Each law is the contract of a function that does nothing.
-ghost use Rattle.std.specs.Prelude.{ℕ};
+//! The laws about what readers see and callers are told. Each law is the contract of a function that does nothing.
+ghost use Rattle.std.specs.Prelude.{List, [], length, ℕ, ◌++◌, ◌∷◌, ◌≡◌};
 ghost use Rattle.std.specs.declared.alloc.Global.{Global};
+ghost use Rattle.urb_group.specs.GroupCalls.{Steps};
+ghost use Rattle.urb_group.specs.GroupViews.{GroupView};
+ghost use Rattle.urb_group.specs.Step.{Event};
+ghost use Rattle.urb_node.specs.Replies.{Reply};
 ghost use Rattle.urb_show.specs.Readers.{AreOfOneHistory, GoesOn, ReaderView, Learns, Takes};
 ghost use Rattle.urb_show.specs.Lists.{AgreeAcross, Begins, Lists, list_at};
 ghost use Rattle.urb_show.specs.Pages.{IsPageOf, NeverContradict};
+ghost use Rattle.urb_show.specs.Pasts.{IsLedTo, IsToldAt};
+ghost use mathlib.Core.List.{IsPrefix};
 ghost use Rattle.urb_show.specs.declared.entry.Page.{Page};
 
 /// What a reader saw is a prefix of everything that it sees later. What two of its reads took
@@ -34,4 +40,20 @@ pub fn who_learns_agrees()
     ensures { (token : Lists) (start first before last : ReaderView) →
         Learns token start first → GoesOn first before → Takes before last →
         AreOfOneHistory token last.seen }
+{}
+
+/// An event of a house has a place in the one history of its events: behind all events before it.
+/// Each moment after the event shows it there, with the reply that the algorithm gives there.
+pub fn replies_stand()
+    // a house's past led to the group before the event, and the moment comes after the event
+    ensures told { (opened old new : GroupView) (past moment : List Event) (event : Event)
+        (reply : Reply) →
+        IsLedTo opened past old → Steps old event (λ told. told ≡ reply) new →
+        IsPrefix (past ++ event ∷ []) moment →
+        IsToldAt opened moment (length past) event reply }
+    // a later moment shows the same
+    ensures stay { (opened : GroupView) (moment later : List Event) (place : ℕ) (event : Event)
+        (reply : Reply) →
+        IsToldAt opened moment place event reply → IsPrefix moment later →
+        IsToldAt opened later place event reply }
 {}

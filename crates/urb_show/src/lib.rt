@@ -15,6 +15,7 @@
 //! let taken = house.submit(alloc, node, client, number, payload)?;   // each call is one event
 //! let done = house.commit(receipt)?;                     // a stored draft may release names
 //! let told = house.settle(rt, node)?;                    // publishes the names
+//! let moment = house.mark();                             // the place in the one history of events
 //! reader.learn(told);                                    // on any thread: it reads no less then
 //! let page = reader.read(alloc, node, 1, 8)?;            // its first eight entries
 //! let group = house.close(rt);                           // the group again, in its present state
@@ -34,8 +35,10 @@ mod group_entries;
 mod history;
 mod house;
 mod house_events;
+mod house_history;
 mod house_queries;
 pub mod laws;
+mod moment;
 mod opened_group;
 mod published_lists;
 mod publisher;
@@ -48,6 +51,7 @@ pub mod worked;
 pub use entry::{Entry, Page};
 pub use history::tokens::HouseName;
 pub use house::House;
+pub use moment::Moment;
 pub use opened_group::{Opened, READERS};
 pub use read_position::ReadPosition;
 pub use reader::{LogReader, ReadFault, Told};

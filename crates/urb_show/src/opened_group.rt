@@ -3,13 +3,15 @@ ghost use Rattle.std.specs.Prelude.{◌≡◌, ◌<◌, ◌*◌, ◌^◌, [], le
 ghost use Rattle.std.specs.Prelude.{MatchResult, IfOk};
 ghost use Rattle.urb_show.specs.Lists.{Agree, lists_in};
 ghost use Rattle.urb_show.specs.internal.History.{issue_of};
-ghost use Rattle.urb_show.specs.Houses.{opened_house};
+ghost use Rattle.urb_show.specs.Houses.{IsNamed, opened_house};
 ghost use Rattle.urb_show.specs.declared.opened_group.TheConstants.{READERS};
 
-use crate::entry::Entry;
+use crate::entry::{Addition, Entry};
 use crate::group_entries::entries_of;
+use crate::history::calls::Happening;
+use crate::history::past::Past;
 use crate::history::rule::Grows;
-use crate::history::tokens::{HouseName, UnnamedBook};
+use crate::history::tokens::{HouseName, OfAdditions, OfEvents, UnnamedBook};
 use crate::house::House;
 use crate::published_lists::PublishedLists;
 use crate::publisher::{LogWriter, Publisher};
@@ -29,7 +31,8 @@ pub const READERS: usize = 4;
 /// of it. Until then it can't be dropped: end it by `close`.
 pub struct Opened {
     group: Group,
-    unnamed: UnnamedBook,
+    unnamed: UnnamedBook<Addition>,
+    events: UnnamedBook<Happening>,
 }
 
 impl Model for Opened {
@@ -37,7 +40,11 @@ impl Model for Opened {
 
     ghost Value = { OpenedView };
 
-    ghost view = { λ o. record { group = o.group; book = o.unnamed.seen.book } };
+    ghost view = { λ o. record {
+      group = o.group;
+      book = o.unnamed.seen.book;
+      history = o.events.seen.book;
+    } };
 }
 
 impl House<Brand> {
@@ -49,6 +56,7 @@ impl House<Brand> {
         Ok(Opened {
             group,
             unnamed: UnnamedBook::new(),
+            events: UnnamedBook::new(),
         })
     }
 }
@@ -58,7 +66,11 @@ impl Opened {
     pub fn close(self) -> Group
         ensures { result ≡ self.group }
     {
-        let Opened { group, unnamed: _ } = self;
+        let Opened {
+            group,
+            unnamed: _,
+            events: _,
+        } = self;
         group
     }
 
@@ -71,7 +83,7 @@ impl Opened {
         rt: &R,
         alloc: Global,
     ) -> Result<(House<K>, Vec<LogReader<K>>), (Opened, NoMemory)>
-        requires names { (self.book ≡ K.book) × (lists_in self.group ≡ K.base) }
+        requires names { IsNamed self K.book K.history K.base K.origin }
         ensures house { MatchResult result
             (λ t. t.0 ≡ opened_house self.group K.base) (λ e. e.0 ≡ self) }
         ensures readers { IfOk result (λ t. length t.1.items ≡ READERS * self.group.size.n) }
@@ -91,35 +103,57 @@ impl Opened {
         alloc: Global,
         memory: A,
     ) -> Result<(House<K, A>, Vec<LogReader<K, A>, A>), (Opened, NoMemory)>
-        requires names { (self.book ≡ K.book) × (lists_in self.group ≡ K.base) }
+        requires names { IsNamed self K.book K.history K.base K.origin }
         ensures house { MatchResult result
             (λ t. t.0 ≡ opened_house self.group K.base) (λ e. e.0 ≡ self) }
         ensures readers { IfOk result (λ t. length t.1.items ≡ READERS * self.group.size.n) }
         ensures known { IfOk result (λ t.
             All (λ r. r ≡ record { seen = K.base; told = K.base }) t.1.items) }
     {
-        let Opened { group, unnamed } = self;
+        let Opened {
+            group,
+            unnamed,
+            events,
+        } = self;
         group.recall_deliveries();
         let count = READERS * usize::from(group.config().n());
         let made = make_writer::<K, A>(alloc, memory, &group, &unnamed, count);
         let (writer, prepared) = match made {
             Ok(made) => made,
-            Err(refused) => return Err((Opened { group, unnamed }, refused)),
+            Err(refused) => return Err((
+                Opened {
+                    group,
+                    unnamed,
+                    events,
+                },
+                refused,
+            )),
         };
         let factory = writer.factory();
         let readers = match make_readers::<K, A>(memory, &factory, &unnamed, count) {
             Ok(readers) => readers,
             Err(refused) => {
                 drop(writer.take(rt));
-                return Err((Opened { group, unnamed }, refused));
+                return Err((
+                    Opened {
+                        group,
+                        unnamed,
+                        events,
+                    },
+                    refused,
+                ));
             }
         };
-        let (book, token) = unnamed.parts::<K>();
+        let (book, token) = unnamed.parts::<OfAdditions<K>>();
+        let (history, told) = events.parts::<OfEvents<K>>();
         let house = House {
             group,
             publisher: Publisher::new(book, token, writer),
             prepared,
             events: 0,
+            past: Past::new(),
+            history,
+            told,
         };
         Ok((house, readers))
     }
@@ -130,7 +164,7 @@ fn make_writer<K: HouseName, A: Allocator + Copy>(
     alloc: Global,
     memory: A,
     group: &Group,
-    unnamed: &UnnamedBook,
+    unnamed: &UnnamedBook<Addition>,
     count: usize,
 ) -> Result<(LogWriter<K, A>, Vec<usize>), NoMemory>
     requires names { (unnamed.now.seen.book ≡ K.book) × (lists_in group.now ≡ K.base) }
@@ -173,7 +207,7 @@ fn copy_lists(alloc: Global, group: &Group) -> Result<(Vec<Vec<Entry>>, Vec<usiz
 fn make_readers<K: HouseName, A: Allocator + Copy>(
     alloc: A,
     factory: &Factory<PublishedLists, u64, Grows<K>, A>,
-    unnamed: &UnnamedBook,
+    unnamed: &UnnamedBook<Addition>,
     count: usize,
 ) -> Result<Vec<LogReader<K, A>, A>, NoMemory>
     requires name { unnamed.now.seen.book ≡ K.book }
@@ -186,7 +220,7 @@ fn make_readers<K: HouseName, A: Allocator + Copy>(
     readers.reserve(count)?;
     for _ in 0..count {
         let reader = factory.reader()?;
-        readers.push_reserved(LogReader::new(reader, unnamed.mark().token::<K>()));
+        readers.push_reserved(LogReader::new(reader, unnamed.mark().token::<OfAdditions<K>>()));
     }
     Ok(readers)
 }

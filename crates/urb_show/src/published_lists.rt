@@ -16,7 +16,7 @@ use urb_group::NoMemory;
 #[derive(Drop)]
 pub(crate) struct PublishedLists {
     lists: Vec<Vec<Entry>>,
-    mark: Mark,
+    mark: Mark<Addition>,
 }
 
 impl Model for PublishedLists {
@@ -32,13 +32,13 @@ impl Model for PublishedLists {
 #[derive(Drop)]
 pub(crate) struct Operation {
     pub(crate) addition: Addition,
-    pub(crate) mark: Mark,
+    pub(crate) mark: Mark<Addition>,
 }
 
 /// What the two published copies have in common. No value of this type is made.
 pub(crate) struct ListsState {
     pub(crate) lists: [[Entry; 0]; 0],
-    pub(crate) mark: Mark,
+    pub(crate) mark: Mark<Addition>,
 }
 
 impl Absorb<Operation> for PublishedLists {
@@ -86,14 +86,14 @@ impl Absorb<Operation> for PublishedLists {
 }
 
 impl PublishedLists {
-    pub(crate) fn new(lists: Vec<Vec<Entry>>, mark: Mark) -> PublishedLists
+    pub(crate) fn new(lists: Vec<Vec<Entry>>, mark: Mark<Addition>) -> PublishedLists
         ensures { result ≡ record { lists = map (λ l. l.items) lists.items; mark = mark } }
     {
         PublishedLists { lists, mark }
     }
 
     /// The history behind the lists.
-    pub(crate) fn mark(&self) -> &Mark
+    pub(crate) fn mark(&self) -> &Mark<Addition>
         ensures { result.now ≡ self.now.mark }
     {
         &self.mark

@@ -9,7 +9,7 @@ ghost use Rattle.urb_show.specs.internal.History.{AddsNothing, issue_of};
 
 use crate::entry::Addition;
 use crate::history::rule::{Grows, Sees};
-use crate::history::tokens::{Book, HistoryToken, HouseName};
+use crate::history::tokens::{Add, Book, HistoryToken, HouseName, OfAdditions};
 use crate::published_lists::{Operation, PublishedLists};
 use crate::reader::Told;
 use left_right::writer::Writer;
@@ -25,7 +25,7 @@ pub(crate) type LogWriter<K, A = Global> = Writer<PublishedLists, Operation, u64
 /// book was seen to have, and all additions of this publisher. Then the additions that the writer
 /// has, and the published ones.
 pub(crate) struct Publisher<K: HouseName, A: Allocator = Global> {
-    book: Book<K>,
+    book: Book<Addition, OfAdditions<K>>,
     known: HistoryToken<K>,
     all: HistoryToken<K>,
     queued: HistoryToken<K>,
@@ -63,7 +63,7 @@ impl<K: HouseName, A: Allocator> Model for Publisher<K, A> {
 
 impl<K: HouseName, A: Allocator> Publisher<K, A> {
     pub(crate) fn new(
-        book: Book<K>,
+        book: Book<Addition, OfAdditions<K>>,
         token: HistoryToken<K>,
         writer: LogWriter<K, A>,
     ) -> Publisher<K, A>
@@ -102,7 +102,7 @@ impl<K: HouseName, A: Allocator> Publisher<K, A> {
             (λ _. AddsNothing self.old self.new) }
     {
         let mut all = self.all.copy();
-        let added = all.add(&self.book, &addition);
+        let added = all.add::<Addition, Add>(&self.book, &addition);
         self.known = all.copy();
         if !added {
             return Err(NoMemory::from(AllocError));

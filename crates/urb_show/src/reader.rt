@@ -8,7 +8,7 @@ ghost use Rattle.urb_show.specs.Additions.{lists_of};
 
 use crate::entry::Page;
 use crate::history::rule::{Grows, Sees};
-use crate::history::tokens::{HistoryToken, HouseName};
+use crate::history::tokens::{HistoryToken, HouseName, OfAdditions};
 use crate::published_lists::PublishedLists;
 use left_right::reader::Reader;
 use std::alloc::{Allocator, Global};
@@ -130,7 +130,10 @@ impl<K: HouseName, A: Allocator> LogReader<K, A> {
             }
         };
         let published = reading.get();
-        let token = published.mark().token::<K>().copy_after(&self.seen);
+        let token = published
+            .mark()
+            .token::<OfAdditions<K>>()
+            .copy_after(&self.seen);
         if token.len() < self.told.len() {
             self.reader = Some(reading.leave());
             return Err(ReadFault::Gone);

@@ -2,11 +2,12 @@
 //!
 //! Each reader has a thread of its own, and a fifth thread writes meanwhile.
 ghost use Rattle.std.specs.Prelude.{◌≡◌, ◌≤◌, IfSome, length};
-ghost use Rattle.urb_show.specs.Lists.{lists_in};
+ghost use Rattle.urb_show.specs.Houses.{IsNamed};
 
 mod again;
 mod lists;
 mod many;
+mod moments;
 mod readers;
 mod seven;
 mod walk;
@@ -14,6 +15,7 @@ mod writer;
 
 use again::{Tally, deliver, open_again};
 use many::{go_on, open_one, open_stored, publish_many};
+use moments::moments;
 use readers::{learn_all, read_all, reads};
 use seven::seven_nodes;
 use std::alloc::Global;
@@ -173,7 +175,7 @@ fn run_readers_and_writer<K: HouseName + Send + Sync, R: Threads + Wait + Sync>(
     alloc: Global,
     opened: Opened,
 ) -> Result<(), &'static str>
-    requires names { (opened.book ≡ K.book) × (lists_in opened.group ≡ K.base) }
+    requires names { IsNamed opened K.book K.history K.base K.origin }
     requires nodes { opened.group.size.n ≡ 3 }
 {
     let (house, mut readers) = match opened.parts::<K, R>(rt, alloc) {
@@ -273,6 +275,13 @@ fn each_growth_of_a_house_may_be_refused(rt: HostRuntime) -> Result<(), Fail> {
         opening > 10 && settling > 2 && reading == 5,
         "{opening} growths in opening, {settling} in settling, {reading} in reading"
     );
+    Ok(())
+}
+
+#[test]
+fn each_event_has_a_place_in_one_history(rt: HostRuntime) -> Result<(), Fail> {
+    let opened = open_three(rt.alloc()).ok_or("no group")?;
+    moments::<Brand, _>(&rt, rt.alloc(), opened)?;
     Ok(())
 }
 

@@ -3,6 +3,7 @@ use Rattle.std.proofs.Common.{◌≡◌, ◌+◌, ◌-◌, ◌^◌, ◌==◌, if
 use Rattle.std.proofs.Common.{Bool, true, false, Ok, Err, Option, Result, ap, refl, ◌∙◌}
 use Rattle.std.proofs.Common.{arith, add-zero}
 use Rattle.std.specs.declared.alloc.Global.{Global}
+use Rattle.urb_group.specs.Step.{Event}
 use Rattle.urb_group.specs.declared.reply.Reply.{Reply}
 use Rattle.urb_show.specs.Houses.{HouseView, next_count}
 use Rattle.urb_show.specs.declared.status.Status.{Status}
@@ -24,10 +25,10 @@ settled_events true p before after (Told lists) h = h.events
 settled_events true p before after OutOfMemory h = h.events
 settled_events false p before after settling h = same_events before after h.0
 
-call_events : {T E : Type 0} (r : Result T E) (old new : HouseView) → Counts r old new
-    → new.events ≡ count_after (count_of r) old.events
-call_events (Ok done) old new h = h.events
-call_events (Err refused) old new h = same_events old new h
+call_events : {T E : Type 0} (event : Event) (r : Result T E) (old new : HouseView)
+    → Counts event r old new → new.events ≡ count_after (count_of r) old.events
+call_events event (Ok done) old new h = h.events
+call_events event (Err refused) old new h = same_events old new h
 
 -- the end of a turn adds its number of events to the House's count
 pub ends_count : (old : HouseView) (job : Job) (at : Stage) (new : HouseView) (said : Reply Global)
@@ -35,12 +36,12 @@ pub ends_count : (old : HouseView) (job : Job) (at : Stage) (new : HouseView) (s
     → Ends old job at new said status settling events → new.events ≡ count_after events old.events
 ends_count old job (stage.Kept receipt) new said status settling events
     (r, between, step, counts, settles, is_said, is_status, is) =
-    rw is (settled_events _ _ between new settling settles ∙ call_events r old between counts)
+    rw is (settled_events _ _ between new settling settles ∙ call_events _ r old between counts)
 ends_count old job (stage.Doubtful doubt) new said status settling events
-    (r, step, counts, is_said, is_status, is_told, is) = rw is (call_events r old new counts)
+    (r, step, counts, is_said, is_status, is_told, is) = rw is (call_events _ r old new counts)
 ends_count old job (stage.Retrieved image) new said status settling events
     (r, between, step, counts, settles, is_said, is_status, is) =
-    rw is (settled_events _ _ between new settling settles ∙ call_events r old between counts)
+    rw is (settled_events _ _ between new settling settles ∙ call_events _ r old between counts)
 ends_count old job (stage.Unread fault) new said status settling events
     (same, is_said, is_status, is_told, is) = rw is (same_events old new same)
 ends_count old job stage.Asking new said status settling events

@@ -14,7 +14,10 @@
 pub mod EventCounts
 pub mod EventNodes
 pub mod ServedStores
+pub mod GrowingPasts
+pub mod TurnLoans
 pub mod TrueResponses
+pub mod SeenEvents
 pub mod LastingStores
 pub mod WaitingNodes
 pub mod StoreKeeping

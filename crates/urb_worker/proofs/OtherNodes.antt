@@ -226,10 +226,11 @@ ends-wait g n m other before after
 
 -- While a worker holds the House in its turn, nothing happens to other nodes, except that they may
 -- crash.
-pub others-wait : {S A : Type 0} (g : Ghosts S A) (n m : ℕ) (j : Job) (before after : S)
-    (came : FinishedView) (turn : IsTurn g j before after came) → runs_at m j ≡ true → n ≢ m
+pub others-wait : {S A : Type 0} (g : Ghosts S A) (opened : GroupView) (n m : ℕ) (j : Job)
+    (before after : S) (came : FinishedView) (turn : IsTurn g opened j before after came)
+    → runs_at m j ≡ true → n ≢ m
     → Waits n turn.lent.group turn.given_back.group × Waits n turn.lent_again.group turn.left.group
-others-wait g n m j before after came turn runs other = (
+others-wait g opened n m j before after came turn runs other = (
   begins-wait n m other j turn.lent turn.given_back turn.at turn.events runs turn.begins,
   ends-wait g n m other before after j runs turn.lent turn.given_back turn.lent_again turn.left
       turn.at turn.new turn.events (came.events - turn.events)

@@ -1,17 +1,20 @@
 -- A turn from one stage to the next, and the whole turn.
-use Rattle.std.proofs.Common.{Bool, Err, Ok, Option, false, inl, inr, refl, subst}
+use Rattle.std.proofs.Common.{Bool, Err, IfSome, Ok, Option, false, inl, inr, refl, subst}
 use Rattle.std.proofs.Common.{true, ℕ, ◌-◌, ◌≡◌}
 use Rattle.std.proofs.lemmas.Bool.{false≢true}
 use Rattle.std.specs.declared.alloc.Global.{Global}
-use Rattle.urb_group.specs.GroupViews.{IsSound}
+use Rattle.urb_group.specs.GroupViews.{GroupView, IsSound}
 use Rattle.urb_group.specs.declared.reply.Reply.{Reply}
 use Rattle.urb_show.specs.Houses.{HouseView}
+use Rattle.urb_show.specs.Pasts.{IsLedTo}
 use Rattle.urb_show.specs.declared.status.Status.{Status}
 use Rattle.urb_stable.specs.PlacedRecords.{Placed}
 use Rattle.urb_stable.specs.declared.stable.Stable.{Ghosts}
 use Rattle.urb_worker.proofs.StoreKeeping.{turn-keeps, turn-leaves}
 use Rattle.urb_worker.specs.Jobs.{runs_at}
 use Rattle.urb_worker.proofs.ServedStores.{one_turn}
+use Rattle.urb_worker.proofs.TurnLoans.{loans_of}
+use Rattle.urb_worker.specs.Loans.{AreLoans, IsLoan, LoanView, LoansView}
 use Rattle.urb_worker.specs.ServedStores.{IsLeftOf, Turns}
 use Rattle.urb_worker.specs.Settlings.{Published}
 use Rattle.urb_worker.specs.Stages.{is_stored}
@@ -36,9 +39,12 @@ goes_still stage.Asking = refl
 goes_still (stage.Answered reply) = refl
 
 -- a turn has begun once its first call was made
-pub just_begun : (old new : HouseView) (j : Job) (at : Stage) (events : ℕ) → IsSound old.group
-    → Begins old j new at events → HasBegun j at
-just_begun old new j at events sound begins = (old, new, at, events, sound, begins, goes_still at)
+pub just_begun : (opened : GroupView) (old new : HouseView) (j : Job) (at : Stage) (events : ℕ)
+    (loan : Option LoanView) → IsSound old.group → Begins old j new at events
+    → IsLedTo opened old.past old.group → IfSome loan (λ l. IsLoan old new l)
+    → HasBegun opened j at loan
+just_begun opened old new j at events loan sound begins leads is =
+    (old, new, at, events, sound, begins, goes_still at, leads, is)
 
 module _ {S A : Type 0} (g : Ghosts S A) (before after : S) where
   from_draft : (draft : Placed) (s t : Stage) → Goes (stage.Drafted draft) s
@@ -79,9 +85,19 @@ module _ {S A : Type 0} (g : Ghosts S A) (before after : S) where
       (subst (λ (u : Stage). Stores g before u after t) goes stores).1
 
   -- a turn that has begun still has after the store did its part
-  pub begun_on : (j : Job) (s t : Stage) → HasBegun j s → Stores g before s after t → HasBegun j t
-  begun_on j s t begun stores =
-      (begun.0, begun.1, begun.2, begun.3, begun.4, begun.5, goes_on begun.2 s t begun.6 stores)
+  pub begun_on : (opened : GroupView) (loan : Option LoanView) (j : Job) (s t : Stage)
+      → HasBegun opened j s loan → Stores g before s after t → HasBegun opened j t loan
+  begun_on opened loan j s t begun stores = (
+    begun.0,
+    begun.1,
+    begun.2,
+    begun.3,
+    begun.4,
+    begun.5,
+    goes_on begun.2 s t begun.6 stores,
+    begun.7,
+    begun.8,
+  )
 
   -- a stage in which the store has done its part
   pub stores_none : (at : Stage) → is_stored at ≡ true → Stores g before at before at
@@ -97,22 +113,29 @@ module _ {S A : Type 0} (g : Ghosts S A) (before after : S) where
 -- ---- the end
 
 -- a turn that has begun, and then ended, came to the results that it ended with
-pub came_on : (old new : HouseView) (j : Job) (at : Stage) (said : Reply Global)
-    (status : Option Status) (settling : Published) (events : ℕ) → IsSound old.group → HasBegun j at
-    → Ends old j at new said status settling events → CameOf j said status settling
-came_on old new j at said status settling events sound begun ends =
-    (at, old, new, events, sound, begun, ends)
+pub came_on : (opened : GroupView) (old new : HouseView) (j : Job) (at : Stage)
+    (said : Reply Global) (status : Option Status) (settling : Published) (events : ℕ)
+    (first : Option LoanView) (loans : Option LoansView) → IsSound old.group
+    → HasBegun opened j at first → Ends old j at new said status settling events → IsSound opened
+    → IsLedTo opened old.past old.group → IfSome loans (λ l. AreLoans first old new l)
+    → CameOf opened j said status settling loans
+came_on opened old new j at said status settling events first loans sound begun ends start leads
+    are = (at, old, new, events, first, sound, begun, ends, start, leads, are)
 
-module _ {S A : Type 0} (g : Ghosts S A) (n : ℕ) where
+module _ {S A : Type 0} (g : Ghosts S A) (opened : GroupView) (n : ℕ) where
   -- A turn that began, did its store's part, and finished is a whole turn at its node.
   pub whole : (j : Job) (before after : S) (done : FinishedView)
       (lent given_back again left : HouseView) (begun stored : TurnView) → runs_at n j ≡ true
-      → stored.job ≡ j → stored.events ≡ begun.events → IsSound left.group
+      → stored.job ≡ j → stored.events ≡ begun.events → stored.loan ≡ begun.loan
+      → IsSound left.group → IsLedTo opened lent.past lent.group
+      → IsLedTo opened again.past again.group
+      → IfSome begun.loan (λ l. IsLoan lent given_back l)
+      → IfSome done.loans (λ l. AreLoans stored.loan again left l)
       → Begins lent j given_back begun.stage begun.events
       → Stores g before begun.stage after stored.stage → Finishes again stored left done
-      → IsTurnAt g n j before after done
-  whole j before after done lent given_back again left begun stored runs same count sound begins
-      stores ends =
+      → IsTurnAt g opened n j before after done
+  whole j before after done lent given_back again left begun stored runs same count loan sound
+      leads leads_again first loans begins stores ends =
       record {
         turn =
             record {
@@ -126,6 +149,12 @@ module _ {S A : Type 0} (g : Ghosts S A) (n : ℕ) where
               begins = begins;
               stores = stores;
               finishes = finishes;
+              leads = leads;
+              leads_again = leads_again;
+              loans =
+                  loans_of begun.loan lent given_back again left done.loans first
+                  (subst (λ (o : Option LoanView).
+                  IfSome done.loans (λ l. AreLoans o again left l)) loan loans);
             };
         sound = sound;
         keeps = λ is waits.
@@ -148,12 +177,13 @@ module _ {S A : Type 0} (g : Ghosts S A) (n : ℕ) where
 
   -- what the turn did to the store
   pub does_turn : (runs : Bool) (j : Job) (before after : S) (done : FinishedView)
-      → Does g n runs j before after done → Turns g before after
+      → Does g opened n runs j before after done → Turns g before after
   does_turn true j before after done does = inr (does.turn.at, does.turn.new, does.turn.stores)
   does_turn false j before after done does = inl does.0
 
 -- one more job
-pub one_job : {S A : Type 0} (g : Ghosts S A) (a b c : S) (n : ℕ) (runs : Bool) (j : Job)
-    (done : FinishedView) → IsLeftOf g a b → Does g n runs j b c done → IsLeftOf g a c
-one_job g a b c n runs j done so_far does =
-    one_turn g a b c so_far (does_turn g n runs j b c done does)
+pub one_job : {S A : Type 0} (g : Ghosts S A) (opened : GroupView) (a b c : S) (n : ℕ)
+    (runs : Bool) (j : Job) (done : FinishedView) → IsLeftOf g a b
+    → Does g opened n runs j b c done → IsLeftOf g a c
+one_job g opened a b c n runs j done so_far does =
+    one_turn g a b c so_far (does_turn g opened n runs j b c done does)

@@ -3,6 +3,7 @@ use Rattle.std.specs.Prelude.{Bool, false, not, true, ◌||◌, ◌≡◌}
 use Rattle.urb_client.specs.declared.format.TheConstants.{UNKNOWN_OPCODE}
 use Rattle.urb_client.specs.Requests.{Asked, Crash, Restart}
 use Rattle.urb_client.specs.Responses.{Refused, Said}
+use Rattle.urb_group.specs.GroupViews.{GroupView}
 use Rattle.urb_worker.specs.Desks.{AnswersAt, DeskView, RefusedAt}
 
 -- a client's desk: its node's desk, and whether the client may crash and restart the node
@@ -26,10 +27,10 @@ not_taken = Refused 19 UNKNOWN_OPCODE
 
 -- A request that the node takes is answered by the node's desk. Any other is refused, and the node's
 -- desk is as it was.
-abbrev pub AnswersClient : ClientDeskView → Asked → Said → ClientDeskView → Type 0
-AnswersClient before asked said after =
+abbrev pub AnswersClient : GroupView → ClientDeskView → Asked → Said → ClientDeskView → Type 0
+AnswersClient opened before asked said after =
     (after.may_crash ≡ before.may_crash)
-    × (is_taken before.may_crash asked ≡ true → AnswersAt before.desk asked said after.desk)
+    × (is_taken before.may_crash asked ≡ true → AnswersAt opened before.desk asked said after.desk)
     × (is_taken before.may_crash asked ≡ false → (after.desk ≡ before.desk) × (said ≡ not_taken))
 
 -- Memory may be refused only for a request that the node takes. It leaves what it leaves of the

@@ -1,6 +1,6 @@
 -- What the desk of a running node answers.
-use Rattle.std.specs.Prelude.{Bool, List, if◌then◌else◌, None, Ok, Option, Some, drop, map, take, ℕ}
-use Rattle.std.specs.Prelude.{◌-◌, ◌≡◌, ◌⊎◌}
+use Rattle.std.specs.Prelude.{Bool, List, [], if◌then◌else◌, None, Option, Some, drop, false}
+use Rattle.std.specs.Prelude.{length, map, take, true, ℕ, ◌-◌, ◌≡◌, ◌≤◌, ◌⊎◌}
 use Rattle.std.specs.declared.alloc.Global.{Global}
 use Rattle.urb_names.specs.Names.{name}
 use Rattle.urb_names.specs.LabelsAndContents.{Content, Label}
@@ -14,28 +14,37 @@ use Rattle.urb_client.specs.declared.response.NodeState.TheVariants as told
 use Rattle.urb_node.specs.declared.answer.Answer.TheVariants as answer
 use Rattle.urb_stable.specs.Entries.{Entry as Record}
 use Rattle.urb_group.specs.Acceptance.{HasStored}
-use Rattle.urb_group.specs.GroupCalls.{ComesUp, GoesDown}
 use Rattle.urb_group.specs.GroupViews.{GroupView, IsSound, Shows}
-use Rattle.urb_group.specs.Step.{Crash as CrashOf, Restart as RestartOf}
+use Rattle.urb_group.specs.Step.{Crash as CrashOf, Event, Restart as RestartOf}
 use Rattle.urb_group.specs.World.{World}
 use Rattle.urb_group.specs.declared.reply.Reply.{Reply}
 use Rattle.urb_group.specs.declared.reply.Reply.TheVariants as reply
 use Rattle.urb_group.specs.declared.state.State.{State}
 use Rattle.urb_group.specs.declared.state.State.TheVariants as state
+use Rattle.urb_node.specs.Replies.{Up, WentDown}
+use Rattle.urb_show.specs.Pasts.{IsLedTo, IsToldAt, after}
 use Rattle.urb_show.specs.Readers.{ReaderView, Learns, Takes}
 use Rattle.urb_show.specs.Lists.{Lists, list_at}
 use Rattle.urb_show.specs.Statuses.{TellsStatus}
 use Rattle.urb_show.specs.declared.entry.Entry.{Entry}
 use Rattle.urb_show.specs.declared.status.Status.{Status}
+use Rattle.urb_worker.specs.Loans.{LoansView}
 use Rattle.urb_worker.specs.Settlings.{Published, told_in}
 use Rattle.urb_worker.specs.Turns.{IsOutcome}
 use Rattle.urb_worker.specs.declared.job.Job.{Job}
 use Rattle.urb_worker.specs.declared.job.Job.TheVariants as job
+use mathlib.Core.List.{IsPrefix}
 
--- a desk: its node, and what its reader knows
+-- a desk: its node, what its reader knows, and the events that it has seen, all up to some moment
 pub record DeskView : Type 0 where
   pub node : ℕ
   pub known : ReaderView
+  pub past : List Event
+
+-- all events until a moment; without one, none
+abbrev pub events_until : Option (List Event) → List Event
+events_until None = []
+events_until (Some events) = events
 
 -- The refusal Down, without a detail. It is also the answer if the worker or the House is gone.
 abbrev pub gone : Said
@@ -76,12 +85,12 @@ abbrev pub part_of : List Entry → ℕ → ℕ → List (Label × Content)
 part_of list place max = map pair_of (take max (drop (place - 1) list))
 
 -- A read was answered. The lists of one moment were taken. The response has as many of the desk's
--- node's entries in them as a frame has room for. Or the House is gone.
+-- node's entries in them as a frame has room for. Or the House is gone. A read shows no events.
 abbrev pub Reads : DeskView → ℕ → ℕ → Said → DeskView → Type 0
 Reads before place max said after =
-    (Takes before.known after.known
+    (after.past ≡ before.past) × ((Takes before.known after.known
     × SaysPage (part_of (list_at after.known.seen (before.node - 1)) place max) said)
-    ⊎ ((after.known ≡ before.known) × (said ≡ gone))
+    ⊎ ((after.known ≡ before.known) × (said ≡ gone)))
 
 -- what a turn published, if anything, was learnt
 abbrev pub LearnsTold : Option Lists → ReaderView → ReaderView → Type 0
@@ -97,76 +106,103 @@ IsJobOf p IsCrash (job.Crash q) = q ≡ p
 IsJobOf p IsRestart (job.Restart q) = q ≡ p
 IsJobOf p asked other = ⊥
 
--- The worker returned a turn with the request's job, and this is the result. The reader learnt what
--- the turn published before its reply was given to the client. Or the worker returned no turn.
-abbrev pub Works : DeskView → Asked → Said → DeskView → Type 0
-Works before asked said after =
+-- The turn got the House behind all events that the desk had seen. The desk has now seen all events
+-- until the turn's end. A job that did not run shows no event.
+abbrev pub Sees : List Event → Bool → Option LoansView → List Event → Type 0
+Sees before true (Some loans) after = IsPrefix before loans.first.lent × (after ≡ loans.last.back)
+Sees before true None after = ⊥
+Sees before false loans after = after ≡ before
+
+-- The worker returned a turn with the request's job, and this is the result. It is a turn on the
+-- House that opened with this group. The reader learnt what the turn published before its reply was
+-- given to the client. Or the worker returned no such turn.
+abbrev pub Works : GroupView → DeskView → Asked → Said → DeskView → Type 0
+Works opened before asked said after =
     ((done : Job) × (ran : Bool) × (answered : Reply Global) × (status : Option Status)
-    × (settling : Published)
-    × IsJobOf before.node asked done × IsOutcome ran done answered status settling
-    × LearnsTold (told_in settling) before.known after.known × (said ≡ told_of answered status))
-    ⊎ ((after.known ≡ before.known) × (said ≡ gone))
+    × (settling : Published) × (loans : Option LoansView)
+    × IsJobOf before.node asked done × IsOutcome opened ran done answered status settling loans
+    × LearnsTold (told_in settling) before.known after.known × (said ≡ told_of answered status)
+    × Sees before.past ran loans after.past)
+    ⊎ ((after.known ≡ before.known) × (after.past ≡ before.past) × (said ≡ gone))
 
 -- ---- what a response says is true
 
--- in some state of the House, node p has stored this message as its own under this number
-pub record HasAccepted (p : ℕ) (m : Content) (seq : ℕ) : Type 0 where
-  pub group : GroupView
-  pub sound : IsSound group
-  pub stored : (w : World) → Shows group w → HasStored w p (name p seq) m
+-- The House opened with a group that shows some world. Before the request, these events had been
+-- seen, and after the response this history has been seen. At a place of the history, behind all
+-- that had been seen before, node p has stored this message as its own under this number.
+pub record HasAccepted (opened : GroupView) (seen history : List Event) (p : ℕ) (m : Content)
+    (seq : ℕ) : Type 0 where
+  pub sound : IsSound opened
+  pub past : List Event
+  pub behind : IsPrefix seen past
+  pub within : IsPrefix past history
+  pub stored : (w : World) → Shows opened w → HasStored (after w past) p (name p seq) m
 
--- in some state of the House, node p had this status
-pub record WasSo (p : ℕ) (state : NodeState) (own logged : ℕ) : Type 0 where
+-- At a place of the history, behind all that had been seen before, node p had this status. The
+-- group is what the events until then had made.
+pub record WasSo (opened : GroupView) (seen history : List Event) (p : ℕ) (state : NodeState)
+    (own logged : ℕ) : Type 0 where
+  pub sound : IsSound opened
+  pub past : List Event
+  pub behind : IsPrefix seen past
+  pub within : IsPrefix past history
   pub group : GroupView
-  pub sound : IsSound group
+  pub leads : IsLedTo opened past group
   pub status : Status
   pub tells : TellsStatus group p (Some status)
   pub told : HasStatus state own logged ≡ HasStatus
       (told_state status.state) status.own status.logged
 
--- in some state of the House, node p crashed
-pub record HasCrashed (p : ℕ) : Type 0 where
-  pub before : GroupView
-  pub after : GroupView
-  pub sound : IsSound before
-  pub crash : GoesDown before p (CrashOf p) (Ok tt) after
+-- At a place of the history, behind all that had been seen before, node p crashed.
+pub record HasCrashed (opened : GroupView) (seen history : List Event) (p : ℕ) : Type 0 where
+  pub sound : IsSound opened
+  pub place : ℕ
+  pub behind : length seen ≤ place
+  pub crash : IsToldAt opened history place (CrashOf p) (WentDown p)
 
--- in some state of the House, node p restarted with some image
-pub record HasRestarted (p : ℕ) : Type 0 where
-  pub before : GroupView
-  pub after : GroupView
+-- At a place of the history, behind all that had been seen before, node p restarted with some
+-- image.
+pub record HasRestarted (opened : GroupView) (seen history : List Event) (p : ℕ) : Type 0 where
+  pub sound : IsSound opened
+  pub place : ℕ
+  pub behind : length seen ≤ place
   pub image : List Record
-  pub sound : IsSound before
-  pub restart : ComesUp before p (RestartOf p image) (Ok tt) after
+  pub restart : IsToldAt opened history place (RestartOf p image) (Up p)
 
 -- The responses that a request to node p may get. A submit gets the number under which the node has
 -- stored this very message. A status gets the node's status. A crash and a restart get that they
 -- are done. Each of them may get a refusal.
-abbrev pub Tells : ℕ → Asked → Said → Type 0
-Tells p asked (Refused number detail) = Unit {0}
-Tells p (Submit client number payload) (Accepted seq) =
-    HasAccepted p (record { client = client; number = number; payload = payload }) seq
-Tells p IsStatus (HasStatus state own logged) = WasSo p state own logged
-Tells p IsCrash IsDone = HasCrashed p
-Tells p IsRestart IsDone = HasRestarted p
-Tells p asked said = ⊥
+abbrev pub Tells : GroupView → List Event → List Event → ℕ → Asked → Said → Type 0
+Tells opened seen history p asked (Refused number detail) = Unit {0}
+Tells opened seen history p (Submit client number payload) (Accepted seq) =
+    HasAccepted opened seen history p
+    (record { client = client; number = number; payload = payload }) seq
+Tells opened seen history p IsStatus (HasStatus state own logged) =
+    WasSo opened seen history p state own logged
+Tells opened seen history p IsCrash IsDone = HasCrashed opened seen history p
+Tells opened seen history p IsRestart IsDone = HasRestarted opened seen history p
+Tells opened seen history p asked said = ⊥
 
 -- A desk answers a read and a wait by the published lists alone, and all other requests by its
 -- node's worker. A wait is answered as a read at a later moment: no other answer is possible, and
 -- without an entry there the page is empty.
-abbrev pub AnswersAt : DeskView → Asked → Said → DeskView → Type 0
-AnswersAt before (Read place max) said after =
+abbrev pub AnswersAt : GroupView → DeskView → Asked → Said → DeskView → Type 0
+AnswersAt opened before (Read place max) said after =
     (after.node ≡ before.node) × Reads before place max said after
-AnswersAt before (Wait place max millis) said after =
+AnswersAt opened before (Wait place max millis) said after =
     (after.node ≡ before.node) × Reads before place max said after
-AnswersAt before asked said after =
-    (after.node ≡ before.node) × Works before asked said after × Tells before.node asked said
+AnswersAt opened before asked said after =
+    (after.node ≡ before.node) × Works opened before asked said after
+    × Tells opened before.past after.past before.node asked said
+    × IsPrefix before.past after.past
 
 -- What refused memory leaves of a desk: it has asked its worker nothing, and knows what it knew. In
 -- a read or a wait it may have taken the lists already.
 abbrev pub RefusedAt : DeskView → Asked → DeskView → Type 0
 RefusedAt before (Read place max) after =
-    (after.node ≡ before.node) × ((after.known ≡ before.known) ⊎ Takes before.known after.known)
+    (after.node ≡ before.node) × (after.past ≡ before.past)
+    × ((after.known ≡ before.known) ⊎ Takes before.known after.known)
 RefusedAt before (Wait place max millis) after =
-    (after.node ≡ before.node) × ((after.known ≡ before.known) ⊎ Takes before.known after.known)
+    (after.node ≡ before.node) × (after.past ≡ before.past)
+    × ((after.known ≡ before.known) ⊎ Takes before.known after.known)
 RefusedAt before asked after = after ≡ before

@@ -1,6 +1,7 @@
 pub mod Jobs
 pub mod Counting
 pub mod Settlings
+pub mod Loans
 pub mod Views
 pub mod Stages
 pub mod Turns

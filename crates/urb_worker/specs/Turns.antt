@@ -1,6 +1,6 @@
 -- What a turn does with the House and with its node's store.
-use Rattle.std.specs.Prelude.{Bool, Err, List, MatchResult, None, Ok, Option, Result, Some, Vec}
-use Rattle.std.specs.Prelude.{false, length, true, ℕ, ◌-◌, ◌≡◌, ◌⊎◌, ltb}
+use Rattle.std.specs.Prelude.{Bool, Err, IfSome, List, MatchResult, None, Ok, Option, Result, Some}
+use Rattle.std.specs.Prelude.{Vec, false, length, true, ℕ, ◌-◌, ◌≡◌, ◌⊎◌, ltb}
 use Rattle.std.specs.declared.alloc.Global.{Global}
 use Rattle.urb_names.specs.CarriedPackets.{Carried}
 use Rattle.urb_names.specs.PacketGrammar.{packet_of}
@@ -19,16 +19,18 @@ use Rattle.urb_group.specs.StoreQuestions.{Gives}
 use Rattle.urb_group.specs.GroupCalls.{Answers, ComesUp, Commits, GoesDown, Takes, Ticks}
 use Rattle.urb_group.specs.GroupViews.{GroupView, IsSound, view_of}
 use Rattle.urb_group.specs.ReportedStates.{state_of}
-use Rattle.urb_group.specs.Step.{Arrive, Crash, Fail, Restart, Submit, Tick}
+use Rattle.urb_group.specs.Step.{Arrive, Commit, Crash, Event, Fail, Restart, Submit, Tick}
 use Rattle.urb_group.specs.declared.reply.Reply.{Reply}
 use Rattle.urb_group.specs.declared.reply.Reply.TheVariants as reply
 use Rattle.urb_group.specs.declared.state.State.{State}
 use Rattle.urb_group.specs.declared.taken.Taken.{Taken}
 use Rattle.urb_show.specs.Houses.{HouseView, IsEvent}
+use Rattle.urb_show.specs.Pasts.{IsLedTo}
 use Rattle.urb_show.specs.Statuses.{TellsStatus}
 use Rattle.urb_show.specs.declared.status.Status.{Status}
 use Rattle.urb_worker.specs.Counting.{count_of}
 use Rattle.urb_worker.specs.Jobs.{node_of}
+use Rattle.urb_worker.specs.Loans.{AreLoans, IsLoan, LoanView, LoansView}
 use Rattle.urb_worker.specs.Settlings.{NothingNew, Published, Settles}
 use Rattle.urb_worker.specs.Stages.{commit_reply, crash_stage, fail_reply, image_stage, kept_stage}
 use Rattle.urb_worker.specs.Stages.{restart_reply, restart_stage, status_reply, taken_stage}
@@ -39,10 +41,11 @@ use Rattle.urb_worker.specs.declared.job.Job.TheVariants as job
 use Rattle.urb_worker.specs.declared.turn_stages.Stage.{Stage}
 use Rattle.urb_worker.specs.declared.turn_stages.Stage.TheVariants as stage
 
--- A call of the House: it counts as one event and publishes nothing. Or it was refused, and nothing
--- changed.
-abbrev pub Counts : {T E : Type 0} → Result T E → HouseView → HouseView → Type 0
-Counts result old new = MatchResult result (λ done. IsEvent old new) (λ refused. new ≡ old)
+-- A call of the House: its event is the last one of the past, it counts as one, and it publishes
+-- nothing. Or the call was refused, and nothing changed.
+abbrev pub Counts : {T E : Type 0} → Event → Result T E → HouseView → HouseView → Type 0
+Counts event result old new =
+    MatchResult result (λ done. IsEvent event old new) (λ refused. new ≡ old)
 
 -- ---- before the store
 
@@ -53,19 +56,21 @@ Begins old (job.Submit p client number payload) new at events =
     (r : Result (Taken Global) Refusal)
     × Takes old.group p (Submit p (record { client = client; number = number; payload = payload }))
     r new.group
-    × Counts r old new × (at ≡ taken_stage r) × (events ≡ count_of r)
+    × Counts (Submit p (record { client = client; number = number; payload = payload })) r old new
+    × (at ≡ taken_stage r) × (events ≡ count_of r)
 Begins old (job.Arrive p bytes) new at events =
     (r : Result (Taken Global) Refusal)
     × Takes old.group p (Arrive p (packet_of bytes.items)) r new.group
-    × Counts r old new × (at ≡ taken_stage r) × (events ≡ count_of r)
+    × Counts (Arrive p (packet_of bytes.items)) r old new
+    × (at ≡ taken_stage r) × (events ≡ count_of r)
 Begins old (job.Tick p) new at events =
     (r : Result (List Carried) Refusal)
     × Ticks old.group (Tick p) r new.group
-    × Counts r old new × (at ≡ tick_stage r) × (events ≡ count_of r)
+    × Counts (Tick p) r old new × (at ≡ tick_stage r) × (events ≡ count_of r)
 Begins old (job.Crash p) new at events =
     (r : Result (Unit {0}) Refusal)
     × GoesDown old.group p (Crash p) r new.group
-    × Counts r old new × (at ≡ crash_stage p r) × (events ≡ count_of r)
+    × Counts (Crash p) r old new × (at ≡ crash_stage p r) × (events ≡ count_of r)
 Begins old (job.Restart p) new at events =
     (state : Option State) × Answers (λ w. Some (state_of (w.node p).state)) old.group p state
     × (new ≡ old) × (at ≡ restart_stage state) × (events ≡ 0)
@@ -112,18 +117,20 @@ abbrev pub Ends : HouseView → Job → Stage → HouseView → Reply Global →
     → Type 0
 Ends old job (stage.Kept receipt) new said status settling events =
     (r : Result Done (Placed × Refusal)) × (between : HouseView)
-    × Commits old.group receipt r between.group × Counts r old between
+    × Commits old.group receipt r between.group
+    × Counts (Commit receipt.node receipt.pos receipt.entry) r old between
     × Settles (has_released r) receipt.node between new settling
     × (said ≡ commit_reply r) × (status ≡ None) × (events ≡ count_of r)
 Ends old job (stage.Doubtful doubt) new said status settling events =
     (r : Result (Unit {0}) Refusal)
-    × GoesDown old.group doubt.node (Fail doubt.node) r new.group × Counts r old new
+    × GoesDown old.group doubt.node (Fail doubt.node) r new.group
+    × Counts (Fail doubt.node) r old new
     × (said ≡ fail_reply doubt.fault r) × (status ≡ None) × (settling ≡ NothingNew)
     × (events ≡ count_of r)
 Ends old job (stage.Retrieved image) new said status settling events =
     (r : Result (Unit {0}) Refusal) × (between : HouseView)
     × ComesUp old.group (node_of job) (Restart (node_of job) image.items) r between.group
-    × Counts r old between
+    × Counts (Restart (node_of job) image.items) r old between
     × Settles (ltb (logged old.group (node_of job)) (logged between.group (node_of job)))
     (node_of job) between new settling
     × (said ≡ restart_reply (node_of job) r) × (status ≡ None) × (events ≡ count_of r)
@@ -157,22 +164,31 @@ Goes stage.Retrieving after =
     × (after ≡ image_stage r))
 Goes before after = after ≡ before
 
--- a turn of this job began at some moment of the House, and is in this stage
-abbrev pub HasBegun : Job → Stage → Type 0
-HasBegun job after =
+-- A turn of this job began at a moment of the House, with this first loan, and is in this stage.
+-- The past of the House led to its group.
+abbrev pub HasBegun : GroupView → Job → Stage → Option LoanView → Type 0
+HasBegun opened job after loan =
     (old new : HouseView) × (at : Stage) × (events : ℕ)
     × IsSound old.group × Begins old job new at events × Goes at after
+    × IsLedTo opened old.past old.group × IfSome loan (λ l. IsLoan old new l)
 
 -- A turn of this job began at a moment of the House. Its store did its part, and the turn ended
--- with these results at a later moment.
-abbrev pub CameOf : Job → Reply Global → Option Status → Published → Type 0
-CameOf job said status settling =
-    (at : Stage) × (old new : HouseView) × (events : ℕ)
-    × IsSound old.group × HasBegun job at × Ends old job at new said status settling events
+-- with these results at a later moment. The past of the House led to its group. If the House gave
+-- its moments, these are the loans of the turn.
+abbrev pub CameOf : GroupView → Job → Reply Global → Option Status → Published → Option LoansView
+    → Type 0
+CameOf opened job said status settling loans =
+    (at : Stage) × (old new : HouseView) × (events : ℕ) × (first : Option LoanView)
+    × IsSound old.group × HasBegun opened job at first
+    × Ends old job at new said status settling events
+    × IsSound opened × IsLedTo opened old.past old.group
+    × IfSome loans (λ l. AreLoans first old new l)
 
 -- The outcome of a job. If it ran, these are its turn's results. Otherwise it is refused in the way
--- that a job for a missing node is.
-abbrev pub IsOutcome : Bool → Job → Reply Global → Option Status → Published → Type 0
-IsOutcome true job said status settling = CameOf job said status settling
-IsOutcome false job said status settling =
+-- that a job for a missing node is, and has no loans.
+abbrev pub IsOutcome : GroupView → Bool → Job → Reply Global → Option Status → Published
+    → Option LoansView → Type 0
+IsOutcome opened true job said status settling loans = CameOf opened job said status settling loans
+IsOutcome opened false job said status settling loans =
     (said ≡ reply.Refused refusal.BadNode) × (status ≡ None) × (settling ≡ NothingNew)
+    × (loans ≡ None)

@@ -3,18 +3,22 @@ use Rattle.std.specs.Prelude.{Bool, Option, ℕ}
 use Rattle.std.specs.declared.alloc.Global.{Global}
 use Rattle.urb_group.specs.declared.reply.Reply.{Reply}
 use Rattle.urb_show.specs.declared.status.Status.{Status}
+use Rattle.urb_worker.specs.Loans.{LoanView, LoansView}
 use Rattle.urb_worker.specs.Settlings.{Published}
 use Rattle.urb_worker.specs.declared.job.Job.{Job}
 use Rattle.urb_worker.specs.declared.turn_stages.Stage.{Stage}
 
--- a job that has begun, its stage, and its number of events
+-- A job that has begun, its stage, and its number of events. Also its first loan of the House, if
+-- the House gave its moments.
 pub record TurnView : Type 0 where
   pub job : Job
   pub stage : Stage
   pub events : ℕ
+  pub loan : Option LoanView
 
 -- A job, its reply, whether it ran, and its number of events. Also its node's status if the job
--- asked for it, and whether the names that the turn released were published.
+-- asked for it, whether the names that the turn released were published, and its two loans of the
+-- House.
 pub record FinishedView : Type 0 where
   pub job : Job
   pub reply : Reply Global
@@ -22,3 +26,4 @@ pub record FinishedView : Type 0 where
   pub settling : Published
   pub ran : Bool
   pub events : ℕ
+  pub loans : Option LoansView

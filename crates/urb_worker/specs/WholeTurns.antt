@@ -1,5 +1,5 @@
 -- What a worker does with a job: the whole of its turn, with the store of its node.
-use Rattle.std.specs.Prelude.{Bool, None, false, true, ℕ, ◌≡◌, ◌⊎◌}
+use Rattle.std.specs.Prelude.{Bool, IfSome, None, false, true, ℕ, ◌-◌, ◌≡◌, ◌⊎◌}
 use Rattle.urb_names.specs.declared.refusal.Refusal.TheVariants as refusal
 use Rattle.urb_stable.specs.declared.stable.Stable.{Ghosts}
 use Rattle.urb_group.specs.GroupViews.{GroupView, IsSound, Shows}
@@ -8,8 +8,10 @@ use Rattle.urb_group.specs.StoreContents.{IsLasting, IsStoreOf, LeavesOf}
 use Rattle.urb_group.specs.World.{World}
 use Rattle.urb_group.specs.declared.reply.Reply.TheVariants as reply
 use Rattle.urb_show.specs.Houses.{HouseView}
+use Rattle.urb_show.specs.Pasts.{IsLedTo}
+use Rattle.urb_worker.specs.Loans.{AreLoansOf}
 use Rattle.urb_worker.specs.Settlings.{NothingNew}
-use Rattle.urb_worker.specs.Turns.{Begins, Finishes, Stores}
+use Rattle.urb_worker.specs.Turns.{Begins, Ends, Stores}
 use Rattle.urb_worker.specs.Views.{FinishedView}
 use Rattle.urb_worker.specs.declared.job.Job.{Job}
 use Rattle.urb_worker.specs.declared.turn_stages.Stage.{Stage}
@@ -24,6 +26,7 @@ misrouted job =
       settling = NothingNew;
       ran = false;
       events = 0;
+      loans = None;
     }
 
 -- ---- a node and its store
@@ -59,8 +62,10 @@ module _ {S A : Type 0} (g : Ghosts S A) where
   -- ---- a turn
 
   -- The whole turn of a job. The worker locked the House and unlocked it. The store did its part.
-  -- The worker locked the House again, and left it in this state.
-  pub record IsTurn (job : Job) (before after : S) (done : FinishedView) : Type 0 where
+  -- The worker locked the House again, and left it in this state. Each time, the past of the House
+  -- led to its group. If the House gave its moments, these are the turn's loans.
+  pub record IsTurn (opened : GroupView) (job : Job) (before after : S)
+      (done : FinishedView) : Type 0 where
     pub lent : HouseView
     pub given_back : HouseView
     pub lent_again : HouseView
@@ -70,20 +75,24 @@ module _ {S A : Type 0} (g : Ghosts S A) where
     pub events : ℕ
     pub begins : Begins lent job given_back at events
     pub stores : Stores g before at after new
-    pub finishes : Finishes lent_again
-        (record { job = job; stage = new; events = events }) left done
+    pub finishes : Ends lent_again job new left done.reply done.status done.settling
+        (done.events - events)
+    pub leads : IsLedTo opened lent.past lent.group
+    pub leads_again : IsLedTo opened lent_again.past lent_again.group
+    pub loans : IfSome done.loans (λ l. AreLoansOf lent given_back lent_again left l)
 
   -- The whole turn of a job at the worker of node n. The store still matches node n if other
   -- workers meanwhile did no more to this node than crash it. A stop in between leaves in the store
   -- what it may leave of the node.
-  pub record IsTurnAt (n : ℕ) (job : Job) (before after : S) (done : FinishedView) : Type 0 where
-    pub turn : IsTurn job before after done
+  pub record IsTurnAt (opened : GroupView) (n : ℕ) (job : Job) (before after : S)
+      (done : FinishedView) : Type 0 where
+    pub turn : IsTurn opened job before after done
     pub sound : IsSound turn.left.group
     pub keeps : IsStoreAt n turn.lent.group before
         → Waits n turn.given_back.group turn.lent_again.group → IsStoreAt n turn.left.group after
     pub leaves : IsStoreAt n turn.lent.group before → LeavesAt n turn.given_back.group after
 
   -- what the worker of node n does with a job: its turn if the job runs there, and else nothing
-  abbrev pub Does : ℕ → Bool → Job → S → S → FinishedView → Type 0
-  Does n true job before after done = IsTurnAt n job before after done
-  Does n false job before after done = (after ≡ before) × (done ≡ misrouted job)
+  abbrev pub Does : GroupView → ℕ → Bool → Job → S → S → FinishedView → Type 0
+  Does opened n true job before after done = IsTurnAt opened n job before after done
+  Does opened n false job before after done = (after ≡ before) × (done ≡ misrouted job)

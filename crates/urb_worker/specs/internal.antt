@@ -7,3 +7,4 @@ pub mod IdleTimes
 pub mod Pulses
 pub mod OwnJobs
 pub mod Doors
+pub mod SeenEvents

@@ -72,7 +72,7 @@ impl<'a, 'w, K: HouseName, R: Wait + Clock, W: Write + Drop> Desk for ClientDesk
 
     ghost use Rattle.urb_worker.specs.ClientDesks.{AnswersClient, RefusedClient};
 
-    ghost answers = { AnswersClient };
+    ghost answers = { AnswersClient K.origin };
 
     ghost refuses = { RefusedClient };
 

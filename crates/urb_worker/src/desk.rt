@@ -1,14 +1,19 @@
 //! The desk of a running node: it passes requests to the node's worker, and does reads itself.
 
-ghost use Rattle.std.specs.Prelude.{◌≡◌, ◌⊎◌, ◌≤◌, ◌↔◌, IfOk, IsTrue, MatchOption, OnErr, length};
+ghost use Rattle.std.specs.Prelude.{◌≡◌, ◌⊎◌, ◌≤◌, ◌↔◌, [], IfOk, IsTrue, MatchOption, OnErr};
+ghost use Rattle.std.specs.Prelude.{length};
 ghost use Rattle.urb_client.specs.declared.format.TheConstants.{MOST_ENTRIES};
 ghost use Rattle.urb_client.specs.Requests.{asked_by};
 ghost use Rattle.urb_client.specs.Responses.{said_by};
 ghost use Rattle.urb_show.specs.Readers.{Takes};
-ghost use Rattle.urb_worker.specs.Desks.{IsJobOf, LearnsTold, Reads, Tells, Works, gone, told_of};
+ghost use Rattle.urb_worker.specs.Desks.{IsJobOf, LearnsTold, Reads, Sees, Tells, Works};
+ghost use Rattle.urb_worker.specs.Desks.{gone, told_of};
+ghost use mathlib.Core.List.{IsPrefix};
 ghost use Rattle.urb_worker.specs.internal.Desks.{IsWork};
+ghost use Rattle.urb_worker.specs.internal.SeenEvents.{Follows};
 ghost use Rattle.urb_worker.specs.Settlings.{told_in};
 
+use crate::loans::copy_moment;
 use crate::responses::{down_response, response_to_read, response_to_turn};
 use crate::{Bell, Finished, InFlight, Job, ReaderPool, Stop, Ticket, TicketPlaces};
 use crossbeam_channel::{SendError, Sender};
@@ -18,7 +23,7 @@ use std::sync::Wait;
 use std::time::{Clock, Duration, Instant};
 use urb_client::{Desk, Request, Response};
 use urb_names::{NoMemory, NodeId};
-use urb_show::{HouseName, ReadFault, ReadPosition, Told};
+use urb_show::{HouseName, Moment, ReadFault, ReadPosition, Told};
 
 /// What the sessions of one node share.
 #[derive(Drop)]
@@ -62,22 +67,28 @@ pub struct NodeDesk<'a, K: HouseName, R: Wait + Clock> {
     node: NodeId,
     service: NodeService<'a, K>,
     position: ReadPosition<K>,
+    // The latest moment of the House that it has seen.
+    seen: Option<Moment<K>>,
 }
 
 impl<'a, K: HouseName, R: Wait + Clock> Model for NodeDesk<'a, K, R> {
     ghost use Rattle.std.specs.Prelude.{◌≤◌, length};
-    ghost use Rattle.urb_worker.specs.Desks.{DeskView};
+    ghost use Rattle.urb_worker.specs.Desks.{DeskView, events_until};
 
     ghost Value = { DeskView };
 
-    ghost view = { λ d. record { node = d.node; known = d.position } };
+    ghost view = { λ d. record {
+      node = d.node;
+      known = d.position;
+      past = events_until d.seen;
+    } };
 
     ghost invariant = { λ d. d.node ≤ length K.base };
 }
 
 impl<'a, K: HouseName, R: Wait + Clock> NodeDesk<'a, K, R> {
-    /// The desk of a node, for a session that begins at this position. The node's worker is at the
-    /// other end of the service's queue.
+    /// The desk of a node, for a session that begins at this position and has seen no event. The
+    /// node's worker is at the other end of the service's queue.
     pub fn new(
         rt: &'a R,
         alloc: Global,
@@ -86,23 +97,32 @@ impl<'a, K: HouseName, R: Wait + Clock> NodeDesk<'a, K, R> {
         position: ReadPosition<K>,
     ) -> NodeDesk<'a, K, R>
         requires { node ≤ length K.base }
-        ensures { result ≡ record { node = node; known = position } }
+        ensures { result ≡ record { node = node; known = position; past = [] } }
     {
+        let seen = None;
         NodeDesk {
             rt,
             alloc,
             node,
             service,
             position,
+            seen,
         }
     }
 
-    /// A desk of the same node, for another session that begins at the same position.
+    /// A desk of the same node, for another session that begins at the same position and has seen
+    /// the same events.
     pub fn copy(&self) -> NodeDesk<'a, K, R>
         ensures { result ≡ self.now }
     {
-        let (rt, alloc, position) = (self.rt, self.alloc, self.position.copy());
-        NodeDesk::new(rt, alloc, self.node, self.service.copy(), position)
+        NodeDesk {
+            rt: self.rt,
+            alloc: self.alloc,
+            node: self.node,
+            service: self.service.copy(),
+            position: self.position.copy(),
+            seen: copy_moment(&self.seen),
+        }
     }
 
     // The job at the desk's node that does what a request asks.
@@ -147,52 +167,65 @@ impl<'a, K: HouseName, R: Wait + Clock> NodeDesk<'a, K, R> {
         came
     }
 
-    // Learns what a turn published, if anything.
-    fn learn(&mut self, lists: Option<Told<K>>)
+    // Learns what a turn published, if anything, and the moment when it ended, if there was one.
+    fn learn(&mut self, lists: Option<Told<K>>, end: Option<Moment<K>>)
         ensures node { self.new.node ≡ self.old.node }
+        ensures past { MatchOption end (self.new.past ≡ self.old.past) (λ m. self.new.past ≡ m) }
         ensures learnt { LearnsTold lists self.old.known self.new.known }
     {
+        if let Some(end) = end {
+            self.seen = Some(end);
+        }
         match lists {
             Some(lists) => self.position.learn(lists),
             None => {}
         }
     }
 
-    // The response for a turn, after the reader has learnt what the turn published.
+    // The response for a turn, after the desk has learnt what the turn published, and its end.
+    #[tactic(auto, using(crate::proofs::SeenEvents::sees))]
     fn respond_to_turn(&mut self, finished: Finished<K>) -> Response
+        requires { Follows self.old.past finished.ran finished.loans }
         ensures node { self.new.node ≡ self.old.node }
         ensures learnt { LearnsTold (told_in finished.settling) self.old.known self.new.known }
         ensures said { said_by result ≡ told_of finished.reply finished.status }
+        ensures sees { Sees self.old.past finished.ran finished.loans self.new.past }
     {
+        let end = finished.end();
         let (reply, status, lists) = finished.into_parts();
-        self.learn(lists);
+        self.learn(lists, end);
         response_to_turn(&reply, status)
     }
 
     // The response for a turn, after the reader has learnt what it published. It is the refusal
-    // `Down` only if the turn is of another job.
+    // `Down` only if the turn is of another job, or doesn't follow what the desk has seen.
     fn respond_if_asked(&mut self, request: &Request, finished: Finished<K>) -> Response
         ensures node { self.new.node ≡ self.old.node }
-        ensures works { Works self.old (asked_by request.now) (said_by result) self.new }
+        ensures works { Works K.origin self.old (asked_by request.now) (said_by result) self.new }
         ensures told { IsJobOf self.old.node (asked_by request.now) finished.job
+            → Follows self.old.past finished.ran finished.loans
             → said_by result ≡ told_of finished.reply finished.status }
     {
-        if is_turn_of(self.node, request, &finished) {
-            self.respond_to_turn(finished)
-        } else {
-            down_response()
+        if !is_turn_of(self.node, request, &finished) {
+            return down_response();
         }
+        if !finished.is_after(&self.seen) {
+            return down_response();
+        }
+        self.respond_to_turn(finished)
     }
 
     // Turns the worker's result into the client's response, after the reader has learnt what was
-    // published. If there is no result, or the result is of another job, the response is the
-    // refusal `Down`.
+    // published. If there is no result, or the result is of another job or an earlier turn, the
+    // response is the refusal `Down`.
     fn respond(&mut self, request: &Request, came: Option<Finished<K>>) -> Response
         ensures node { self.new.node ≡ self.old.node }
-        ensures works { Works self.old (asked_by request.now) (said_by result) self.new }
-        // It is the refusal `Down` only if no turn came, or that of another job.
+        ensures works { Works K.origin self.old (asked_by request.now) (said_by result) self.new }
+        // It is the refusal `Down` only if no turn came, or that of another job, or one that
+        // doesn't follow what the desk has seen.
         ensures told { MatchOption came (said_by result ≡ gone)
             (λ finished. IsJobOf self.old.node (asked_by request.now) finished.job
+            → Follows self.old.past finished.ran finished.loans
             → said_by result ≡ told_of finished.reply finished.status) }
     {
         match came {
@@ -205,8 +238,10 @@ impl<'a, K: HouseName, R: Wait + Clock> NodeDesk<'a, K, R> {
     fn work(&mut self, request: &Request) -> Result<Response, NoMemory>
         requires { IsWork (asked_by request.now) }
         ensures answered { IfOk result (λ response. (self.new.node ≡ self.old.node)
-            × Works self.old (asked_by request.now) (said_by response) self.new
-            × Tells self.old.node (asked_by request.now) (said_by response)) }
+            × Works K.origin self.old (asked_by request.now) (said_by response) self.new
+            × Tells K.origin self.old.past self.new.past self.old.node (asked_by request.now)
+            (said_by response)
+            × IsPrefix self.old.past self.new.past) }
         ensures refused { OnErr result (self.new ≡ self.old) }
     {
         let job = self.job_of(request)?;
@@ -220,6 +255,7 @@ impl<'a, K: HouseName, R: Wait + Clock> NodeDesk<'a, K, R> {
         ensures answered { IfOk result (λ response. (self.new.node ≡ self.old.node)
             × Reads self.old place max (said_by response) self.new) }
         ensures refused { OnErr result ((self.new.node ≡ self.old.node)
+            × (self.new.past ≡ self.old.past)
             × ((self.new.known ≡ self.old.known) ⊎ Takes self.old.known self.new.known)) }
     {
         let (rt, alloc, node, readers) = (self.rt, self.alloc, self.node, self.service.readers);
@@ -271,6 +307,7 @@ impl<'a, K: HouseName, R: Wait + Clock> NodeDesk<'a, K, R> {
         ensures answered { IfOk result (λ response. (self.new.node ≡ self.old.node)
             × Reads self.old place max (said_by response) self.new) }
         ensures refused { OnErr result ((self.new.node ≡ self.old.node)
+            × (self.new.past ≡ self.old.past)
             × ((self.new.known ≡ self.old.known) ⊎ Takes self.old.known self.new.known)) }
     {
         self.await_entry(place, millis);
@@ -283,7 +320,7 @@ impl<'a, K: HouseName, R: Wait + Clock> Desk for NodeDesk<'a, K, R> {
 
     ghost use Rattle.urb_worker.specs.Desks.{AnswersAt, RefusedAt};
 
-    ghost answers = { AnswersAt };
+    ghost answers = { AnswersAt K.origin };
 
     ghost refuses = { RefusedAt };
 

@@ -86,7 +86,8 @@ impl<K: HouseName, L: HubName> Hub<K, L> {
         ensures ran { result.0.ran ≡ runs_at node job }
         ensures tally { result.1 ≡ tally + result.0.events }
         // What the turn did to the House and to the store: nothing if the job doesn't run here.
-        ensures turn { Does S.Stable node (runs_at node job) job store.old store.new result.0 }
+        ensures turn { Does S.Stable K.origin node (runs_at node job) job store.old store.new
+            result.0 }
     {
         if !job.runs_at(node) {
             return (Finished::misrouted(job), tally);

@@ -31,8 +31,9 @@ use urb_stable::Stable;
 /// If a turn's reply is that a record is stored, the turn drafted this record and had its store
 /// take it. The store, if it is honest, then has the record for certain.
 pub fn what_is_told_as_stored_is_kept<S: Stable<Alloc = Global>>()
-    ensures { (job : Job) (before after : S) (came : FinishedView) (done : Done)
-        (turn : IsTurn S.Stable job before after came)
+    ensures { (opened : GroupView) (job : Job) (before after : S) (came : FinishedView)
+        (done : Done)
+        (turn : IsTurn S.Stable opened job before after came)
         → came.reply ≡ Stored done
         → (draft : Placed) × (turn.at ≡ Drafted draft) × (turn.new ≡ Kept draft)
         × (S.is_honest after → S.certain after ≡ S.certain before ++ draft.entry ∷ []) }
@@ -41,14 +42,16 @@ pub fn what_is_told_as_stored_is_kept<S: Stable<Alloc = Global>>()
 /// What `change_of` reports about a turn has happened in it. It reports each store that failed,
 /// unless its node had gone down before: then the turn is stale.
 pub fn what_is_reported_has_happened<S: Stable<Alloc = Global>>()
-    ensures happened { (job : Job) (before after : S) (came : FinishedView) (change : Change)
-        (turn : IsTurn S.Stable job before after came)
+    ensures happened { (opened : GroupView) (job : Job) (before after : S) (came : FinishedView)
+        (change : Change)
+        (turn : IsTurn S.Stable opened job before after came)
         → came.job ≡ job
         → change_of came ≡ Some change
         → HasChanged change turn.lent.group turn.given_back.group turn.lent_again.group
         turn.left.group }
-    ensures failed { (job : Job) (before after : S) (came : FinishedView) (doubt : Doubted)
-        (turn : IsTurn S.Stable job before after came)
+    ensures failed { (opened : GroupView) (job : Job) (before after : S) (came : FinishedView)
+        (doubt : Doubted)
+        (turn : IsTurn S.Stable opened job before after came)
         → came.job ≡ job
         → turn.new ≡ Doubtful doubt
         → came.reply ≢ Refused Stale
@@ -57,8 +60,9 @@ pub fn what_is_reported_has_happened<S: Stable<Alloc = Global>>()
 
 /// The turns of other workers do no more to a node than crash it.
 pub fn other_workers_let_a_node_wait<S: Stable<Alloc = Global>>()
-    ensures turn { (n m : ℕ) (job : Job) (before after : S) (came : FinishedView)
-        (turn : IsTurn S.Stable job before after came)
+    ensures turn { (opened : GroupView) (n m : ℕ) (job : Job) (before after : S)
+        (came : FinishedView)
+        (turn : IsTurn S.Stable opened job before after came)
         → runs_at m job ≡ true
         → n ≢ m
         → Waits n turn.lent.group turn.given_back.group

@@ -56,6 +56,7 @@ mod job;
 pub mod laws;
 mod links;
 mod listeners;
+mod loans;
 mod own_jobs;
 mod polling;
 mod pulse;

@@ -1,22 +1,27 @@
 //! One job's turn on the House, and its result.
 
-ghost use Rattle.std.specs.Prelude.{◌≡◌, ◌-◌, ◌≤◌, true};
+ghost use Rattle.std.specs.Prelude.{◌≡◌, ◌-◌, ◌≤◌, ◌↔◌, IfSome, IsTrue, true};
 ghost use Rattle.urb_worker.specs.Counting.{count_after};
+ghost use Rattle.urb_worker.specs.Desks.{events_until};
+ghost use Rattle.urb_worker.specs.Loans.{AreLoans, IsLoan};
 ghost use Rattle.urb_worker.specs.Settlings.{published_by, told_in};
 ghost use Rattle.urb_worker.specs.Stages.{is_stored};
+ghost use Rattle.urb_worker.specs.internal.SeenEvents.{Follows, end_of};
 ghost use Rattle.urb_worker.specs.internal.Stages.{is_drafted};
 ghost use Rattle.urb_worker.specs.Turns.{Begins, Finishes, Stores};
+ghost use Rattle.urb_show.specs.Pasts.{IsLedTo};
 ghost use Rattle.urb_worker.specs.WholeTurns.{misrouted};
 
 use crate::Job;
+use crate::loans::{Loan, Loans};
 use crate::settling::Settling;
 use crate::turn_stages::{Ending, Stage, finish_event, run_store, start_event};
 use std::alloc::Global;
-use std::marker::{Model, PhantomData};
+use std::marker::Model;
 use std::sync::Wait;
 use urb_group::{Reply, Stable};
 use urb_names::Refusal;
-use urb_show::{House, HouseName, Status, Told};
+use urb_show::{House, HouseName, Moment, Status, Told};
 
 /// A job that has begun, on the House that K names. It continues with `store`, which doesn't borrow
 /// the House, and ends with `finish`.
@@ -26,7 +31,8 @@ pub struct Turn<K: HouseName> {
     stage: Stage,
     // The number of its events so far.
     count: u8,
-    name: PhantomData<K>,
+    // Its first loan of the House. `None` if the House gave no moment, which no run sees.
+    loan: Option<Loan<K>>,
 }
 
 impl<K: HouseName> Model for Turn<K> {
@@ -36,9 +42,14 @@ impl<K: HouseName> Model for Turn<K> {
 
     ghost Value = { TurnView };
 
-    ghost view = { λ t. record { job = t.job; stage = t.stage; events = t.count } };
+    ghost view = { λ t. record {
+      job = t.job;
+      stage = t.stage;
+      events = t.count;
+      loan = t.loan;
+    } };
 
-    ghost invariant = { λ t. (t.count ≤ 1) × HasBegun t.job t.stage };
+    ghost invariant = { λ t. (t.count ≤ 1) × HasBegun K.origin t.job t.stage t.loan };
 }
 
 /// The result of a job. If the job ran, it comes from a turn on the House that K names.
@@ -50,6 +61,8 @@ pub struct Finished<K: HouseName> {
     settling: Settling<K>,
     ran: bool,
     events: u8,
+    // Its loans of the House. `None` if it did not run, or if the House gave no moment.
+    loans: Option<Loans<K>>,
 }
 
 impl<K: HouseName> Model for Finished<K> {
@@ -59,8 +72,8 @@ impl<K: HouseName> Model for Finished<K> {
 
     ghost Value = { FinishedView };
 
-    ghost invariant = { λ f. IsOutcome f.ran f.job f.reply f.status
-        (published_by f.settling) };
+    ghost invariant = { λ f. IsOutcome K.origin f.ran f.job f.reply f.status
+        (published_by f.settling) f.loans };
 
     ghost view = { λ f. record {
       job = f.job;
@@ -69,25 +82,32 @@ impl<K: HouseName> Model for Finished<K> {
       settling = published_by f.settling;
       ran = f.ran;
       events = f.events;
+      loans = f.loans;
     } };
 }
 
 impl<K: HouseName> Turn<K> {
     /// The job's event before its store. A restart of a node that is down asks its store first, and
     /// a status is no event: they change nothing here.
+    #[tactic(auto, using(crate::proofs::TurnLoans::is_loan, crate::proofs::TurnSteps::just_begun))]
     pub fn begin(alloc: Global, house: &mut House<K>, job: Job) -> Turn<K>
         ensures job { result.job ≡ job }
         // What it did to the House, in full.
         ensures step { Begins house.old job house.new result.stage result.events }
         ensures counted { house.new.events ≡ count_after result.events house.old.events }
+        // The past of the House led to its group, and these are the moments of the loan.
+        ensures leads { IsLedTo K.origin house.old.past house.old.group }
+        ensures loan { IfSome result.loan (λ l. IsLoan house.old house.new l) }
     {
         house.recall();
+        let lent = house.mark();
         let (stage, count) = start_event(alloc, house, &job);
+        let loan = Loan::new(lent, house.mark());
         Turn {
             job,
             stage,
             count,
-            name: PhantomData,
+            loan,
         }
     }
 
@@ -96,6 +116,7 @@ impl<K: HouseName> Turn<K> {
     pub fn store<S: Stable<Alloc = Global>>(self, alloc: Global, store: &mut S) -> Turn<K>
         ensures job { result.job ≡ self.job }
         ensures events { result.events ≡ self.events }
+        ensures loan { result.loan ≡ self.loan }
         ensures step { Stores S.Stable store.old self.stage store.new result.stage }
         ensures stored { is_stored result.stage ≡ true }
     {
@@ -103,20 +124,20 @@ impl<K: HouseName> Turn<K> {
             job,
             stage,
             count,
-            name,
+            loan,
         } = self;
         Turn {
             job,
             stage: run_store(alloc, stage, store),
             count,
-            name,
+            loan,
         }
     }
 
     /// The job's event after its store. If names of the node were released, the node is settled. If
     /// the draft is no longer held, its receipt is dropped and the reply is `Refused(Stale)`. May
     /// wait for a reader.
-    #[tactic(auto, using(crate::proofs::EventCounts::ends_count))]
+    #[tactic(auto, using(crate::proofs::EventCounts::ends_count, crate::proofs::TurnLoans::is_loan, crate::proofs::TurnLoans::are_loans, crate::proofs::TurnSteps::came_on))]
     pub fn finish<R: Wait>(self, rt: &R, alloc: Global, house: &mut House<K>) -> Finished<K>
         requires { is_stored self.stage ≡ true }
         ensures job { result.job ≡ self.job }
@@ -126,20 +147,25 @@ impl<K: HouseName> Turn<K> {
         ensures events { self.events ≤ result.events }
         ensures counted { house.new.events
             ≡ count_after (result.events - self.events) house.old.events }
+        // The past of the House led to its group, and these are the loans of the turn.
+        ensures leads { IsLedTo K.origin house.old.past house.old.group }
+        ensures loans { IfSome result.loans (λ l. AreLoans self.loan house.old house.new l) }
     {
         let Turn {
             job,
             stage,
             count,
-            name: _,
+            loan,
         } = self;
         house.recall();
+        let lent = house.mark();
         let Ending {
             reply,
             status,
             settling,
             events: more,
         } = finish_event(rt, alloc, house, &job, stage);
+        let last = Loan::new(lent, house.mark());
         Finished {
             job,
             reply,
@@ -147,6 +173,7 @@ impl<K: HouseName> Turn<K> {
             settling,
             ran: true,
             events: count + more,
+            loans: Loans::new(loan, last),
         }
     }
 
@@ -185,6 +212,7 @@ impl<K: HouseName> Finished<K> {
             settling: Settling::NothingNew,
             ran: false,
             events: 0,
+            loans: None,
         }
     }
 
@@ -237,6 +265,34 @@ impl<K: HouseName> Finished<K> {
             ..
         } = self;
         (reply, status, settling.into_told())
+    }
+
+    // Whether its turn got the House at this moment or later. A job that did not run has no place.
+    #[tactic(auto, using(crate::proofs::SeenEvents::after_unran, crate::proofs::SeenEvents::after_none, crate::proofs::SeenEvents::after_some))]
+    pub(crate) fn is_after(&self, moment: &Option<Moment<K>>) -> bool
+        ensures { IsTrue result
+            ↔ Follows (events_until moment.now) self.now.ran self.now.loans }
+    {
+        if !self.ran {
+            return true;
+        }
+        match &self.loans {
+            Some(loans) => loans.is_after(moment),
+            None => false,
+        }
+    }
+
+    // The moment when its turn ended. `None` if it did not run, or if the House gave no moment.
+    pub(crate) fn end(&self) -> Option<Moment<K>>
+        ensures { result ≡ end_of self.now.ran self.now.loans }
+    {
+        if !self.ran {
+            return None;
+        }
+        match &self.loans {
+            Some(loans) => Some(loans.end()),
+            None => None,
+        }
     }
 
     // The bytes of the datagram, if the job was an arrival.

@@ -5,7 +5,7 @@
 ghost use Rattle.std.specs.Prelude.{◌≡◌, ◌<◌, ◌≤◌, ◌*◌, ◌+◌, IfOk, IfSome, length, reverse, sum};
 ghost use Rattle.std.specs.Prelude.{vec_len, vec_capacity};
 ghost use Rattle.urb_names.specs.declared.limits.TheConstants.{MAX_NODES};
-ghost use Rattle.urb_show.specs.Lists.{lists_in};
+ghost use Rattle.urb_show.specs.Houses.{IsNamed};
 ghost use Rattle.urb_worker.specs.Counting.{count_after};
 ghost use Rattle.urb_worker.specs.ServedStores.{AreServed};
 ghost use Rattle.urb_worker.specs.internal.ServedStores.{each, numbers_from};
@@ -132,7 +132,7 @@ fn open_hub<K: HouseName, L: HubName, R: Wait>(
     opened: Opened,
     blank: Blank,
 ) -> Option<(Hub<K, L>, Vec<Tally<L>>, Vec<LogReader<K>>)>
-    requires names { (opened.book ≡ K.book) × (lists_in opened.group ≡ K.base) }
+    requires names { IsNamed opened K.book K.history K.base K.origin }
     requires name { blank.name ≡ L.name }
     requires parts { (blank.parts ≡ L.parts) × (L.parts ≡ opened.group.size.n) }
     requires start { L.start ≡ 0 }
@@ -323,7 +323,7 @@ pub fn run_group<
 ) -> (Vec<S>, Option<u64>)
 where
     R: Threads + Wait + Clock + Sync + Net<Listener = TcpListener, Stream = TcpStream>,
-    requires names { (opened.book ≡ K.book) × (lists_in opened.group ≡ K.base) }
+    requires names { IsNamed opened K.book K.history K.base K.origin }
     requires name { blank.name ≡ L.name }
     requires parts { (blank.parts ≡ L.parts) × (L.parts ≡ opened.group.size.n) }
     requires start { L.start ≡ 0 }

@@ -3,7 +3,7 @@
 //! They are the reply of a turn, stores that overlap, and workers over channels and links.
 
 ghost use Rattle.std.specs.Prelude.{◌≡◌, ◌*◌, IfSome, length, vec_len};
-ghost use Rattle.urb_show.specs.Lists.{lists_in};
+ghost use Rattle.urb_show.specs.Houses.{IsNamed};
 
 use crossbeam_channel::Sender;
 use std::alloc::Global;
@@ -19,6 +19,7 @@ use urb_worker::{
 mod bursts;
 mod desks;
 mod drafts;
+mod earlier;
 mod feeds;
 mod flights;
 mod gates;
@@ -56,7 +57,7 @@ fn open_hub<K: HouseName, L: HubName, R: Wait>(
     opened: Opened,
     blank: Blank,
 ) -> Option<(Hub<K, L>, Vec<Tally<L>>, Vec<LogReader<K>>)>
-    requires names { (opened.book ≡ K.book) × (lists_in opened.group ≡ K.base) }
+    requires names { IsNamed opened K.book K.history K.base K.origin }
     requires name { blank.name ≡ L.name }
     requires parts { (blank.parts ≡ L.parts) × (L.parts ≡ opened.group.size.n) }
     requires start { L.start ≡ 0 }

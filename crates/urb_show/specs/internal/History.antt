@@ -1,5 +1,5 @@
--- The history of all additions, which exists only in proofs: the rule of its book, and what a step
--- says.
+-- Histories, which exist only in proofs: the rule of a book, what a step says, and the history of
+-- all additions.
 use Rattle.std.specs.Prelude.{List, MatchBool, [], length, true, ℕ, ◌++◌, ◌<◌, ◌==◌, ◌^◌, ◌∷◌}
 use Rattle.std.specs.Prelude.{◌≡◌, ◌≤◌, ◌⊎◌}
 use Rattle.logbook.specs.Pages.{Book, Cell, Named, Step, View}
@@ -9,35 +9,35 @@ use Rattle.urb_show.specs.Additions.{lists_of}
 
 -- The first word of the book is the length of the history. The second word, which every book has,
 -- stays 0.
-pub record IsKept (cells : List Cell) (log : List Addition) : Type 0 where
+pub record IsKept {E : Type 0} (cells : List Cell) (log : List E) : Type 0 where
   pub words : cells ≡ (length log, true) ∷ (0, true) ∷ []
 
 -- the book's first word
 abbrev pub head_of : Book → Named
 head_of b = record { tracked = true; key = 0; book = b }
 
--- The addition was appended to all additions that had been seen. Or the history was longer than
--- that, and now the longer one is seen.
-abbrev pub Adds : Step Addition → View Addition ℕ → ℕ → View Addition ℕ → Type 0
+-- The entry was appended to all entries that had been seen. Or the history was longer than that,
+-- and now the longer one is seen.
+abbrev pub Adds : {E : Type 0} → Step E → View E ℕ → ℕ → View E ℕ → Type 0
 Adds s v found w = MatchBool (found == s.old) (w.0 ≡ v.0 ++ s.ask ∷ []) (length w.0 ≡ found)
 
 -- a prefix of the history of a book
-pub record MarkView : Type 0 where
+pub record MarkView (E : Type 0) : Type 0 where
   pub book : Book
-  pub log : List Addition
+  pub log : List E
 
 -- what is published: the lists, and the history behind them
 pub record Issue : Type 0 where
   pub lists : Lists
-  pub mark : MarkView
+  pub mark : MarkView Addition
 
 -- the lists of this history, in a house that has this book and opened with these lists
 abbrev pub issue_of : Book → Lists → List Addition → Issue
 issue_of book base log = record
     { lists = lists_of base log; mark = record { book = book; log = log } }
 
--- a history that can take no more additions
-abbrev pub IsFull : List Addition → Type 0
+-- a history that can take no more entries
+abbrev pub IsFull : {E : Type 0} → List E → Type 0
 IsFull log = 2 ^ 62 ≤ length log
 
 -- The longest history that the book was seen to have, and all additions of the publisher. Then

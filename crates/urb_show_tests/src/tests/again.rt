@@ -3,7 +3,7 @@
 //! The test then makes the same call again, with memory. It gives what the first one would have
 //! given.
 ghost use Rattle.std.specs.Prelude.{◌≡◌, ◌≤◌, IfOk, length};
-ghost use Rattle.urb_show.specs.Lists.{lists_in};
+ghost use Rattle.urb_show.specs.Houses.{IsNamed};
 
 use super::readers::agrees;
 use super::writer::{answer, broadcast, node, three_stores};
@@ -68,7 +68,7 @@ fn site_of<'a, K: HouseName, R: Wait>(
     ),
     &'static str,
 >
-    requires names { (opened.book ≡ K.book) × (lists_in opened.group ≡ K.base) }
+    requires names { IsNamed opened K.book K.history K.base K.origin }
     requires nodes { opened.group.size.n ≡ 3 }
     ensures { IfOk result (λ it. length it.1.items ≡ 12) }
 {
@@ -217,7 +217,7 @@ pub fn deliver<K: HouseName, R: Wait>(
     heap: &Refusing<Global>,
     opened: Opened,
 ) -> Result<(Group, Tally), &'static str>
-    requires names { (opened.book ≡ K.book) × (lists_in opened.group ≡ K.base) }
+    requires names { IsNamed opened K.book K.history K.base K.origin }
     requires nodes { opened.group.size.n ≡ 3 }
 {
     let (mut house, mut readers, opening) = site_of::<K, R>(rt, alloc, heap, opened)?;
@@ -237,7 +237,7 @@ pub fn open_again<K: HouseName, R: Wait>(
     heap: &Refusing<Global>,
     opened: Opened,
 ) -> Result<Tally, &'static str>
-    requires names { (opened.book ≡ K.book) × (lists_in opened.group ≡ K.base) }
+    requires names { IsNamed opened K.book K.history K.base K.origin }
     requires nodes { opened.group.size.n ≡ 3 }
 {
     let (house, mut readers, opening) = site_of::<K, R>(rt, alloc, heap, opened)?;

@@ -3,7 +3,7 @@
 //! Its messages are stored, published and read. Then the group is opened from what its store holds,
 //! all is read again, and one more message is stored.
 ghost use Rattle.std.specs.Prelude.{◌≡◌, ◌≤◌, IfSome, length};
-ghost use Rattle.urb_show.specs.Lists.{lists_in};
+ghost use Rattle.urb_show.specs.Houses.{IsNamed};
 
 use super::first_false;
 use super::writer::{broadcast, node};
@@ -103,7 +103,7 @@ pub fn publish_many<K: HouseName, R: Wait>(
     opened: Opened,
     stores: &mut [MemStable],
 ) -> Result<(), &'static str>
-    requires names { (opened.book ≡ K.book) × (lists_in opened.group ≡ K.base) }
+    requires names { IsNamed opened K.book K.history K.base K.origin }
     requires nodes { opened.group.size.n ≡ 1 }
 {
     let (mut house, mut readers) = match opened.parts::<K, R>(rt, alloc) {
@@ -131,7 +131,7 @@ pub fn go_on<K: HouseName, R: Wait>(
     opened: Opened,
     stores: &mut [MemStable],
 ) -> Result<(), &'static str>
-    requires names { (opened.book ≡ K.book) × (lists_in opened.group ≡ K.base) }
+    requires names { IsNamed opened K.book K.history K.base K.origin }
     requires nodes { opened.group.size.n ≡ 1 }
 {
     let (mut house, mut readers) = match opened.parts::<K, R>(rt, alloc) {

@@ -1,6 +1,6 @@
 //! A house of seven nodes: the last node broadcasts, and what it delivers is published and read.
 ghost use Rattle.std.specs.Prelude.{◌≡◌, ◌<◌, ◌≤◌, length};
-ghost use Rattle.urb_show.specs.Lists.{lists_in};
+ghost use Rattle.urb_show.specs.Houses.{IsNamed};
 
 use super::first_false;
 use super::readers::agrees;
@@ -153,7 +153,7 @@ pub fn seven_nodes<K: HouseName, R: Wait>(
     alloc: Global,
     opened: Opened,
 ) -> Result<(), &'static str>
-    requires names { (opened.book ≡ K.book) × (lists_in opened.group ≡ K.base) }
+    requires names { IsNamed opened K.book K.history K.base K.origin }
     requires nodes { opened.group.size.n ≡ 7 }
 {
     let (mut house, mut readers) = match opened.parts::<K, R>(rt, alloc) {

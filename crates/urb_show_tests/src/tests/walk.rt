@@ -1,6 +1,6 @@
 //! The calls of a house, one by one.
 ghost use Rattle.std.specs.Prelude.{◌≡◌, ◌≤◌, length};
-ghost use Rattle.urb_show.specs.Lists.{lists_in};
+ghost use Rattle.urb_show.specs.Houses.{IsNamed};
 
 use super::first_false;
 use super::readers::reads;
@@ -254,7 +254,7 @@ pub fn walk<K: HouseName, R: Wait>(
     alloc: Global,
     opened: Opened,
 ) -> Result<(), &'static str>
-    requires names { (opened.book ≡ K.book) × (lists_in opened.group ≡ K.base) }
+    requires names { IsNamed opened K.book K.history K.base K.origin }
     requires nodes { opened.group.size.n ≡ 3 }
 {
     let (mut house, mut readers) = match opened.parts::<K, R>(rt, alloc) {

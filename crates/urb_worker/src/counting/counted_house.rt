@@ -1,9 +1,11 @@
 //! The value under a Hub's lock: the House, with the book of its events.
 
-ghost use Rattle.std.specs.Prelude.{◌≡◌, ◌+◌, ◌-◌, ◌<◌, IfOk, OnErr, sum, true, vec_len};
+ghost use Rattle.std.specs.Prelude.{◌≡◌, ◌+◌, ◌-◌, ◌<◌, IfOk, IfSome, OnErr, sum, true, vec_len};
 ghost use Rattle.urb_feed.specs.Feeds.{IsPortion};
 ghost use Rattle.urb_group.specs.GroupViews.{IsSound};
+ghost use Rattle.urb_show.specs.Pasts.{IsLedTo};
 ghost use Rattle.urb_worker.specs.Counting.{count_after};
+ghost use Rattle.urb_worker.specs.Loans.{AreLoans, IsLoan};
 ghost use Rattle.urb_worker.specs.NodeFeeds.{BeginsFeed};
 ghost use Rattle.urb_worker.specs.Stages.{is_stored};
 ghost use Rattle.urb_worker.specs.Turns.{Begins, Finishes};
@@ -41,6 +43,8 @@ impl<K: HouseName, L: HubName> CountedHouse<K, L> {
     #[tactic(auto, using(crate::proofs::EventCounts::count_sum))]
     pub(crate) fn begin(&mut self, alloc: Global, job: Job, tally: &mut Tally<L>) -> Turn<K>
         ensures step { Begins self.old.house job self.new.house result.stage result.events }
+        ensures leads { IsLedTo K.origin self.old.house.past self.old.house.group }
+        ensures loan { IfSome result.loan (λ l. IsLoan self.old.house self.new.house l) }
         ensures job { result.job ≡ job }
         ensures tally { tally.new ≡ tally.old + result.events }
     {
@@ -65,6 +69,9 @@ impl<K: HouseName, L: HubName> CountedHouse<K, L> {
     ) -> Finished<K>
         requires { is_stored turn.stage ≡ true }
         ensures step { Finishes self.old.house turn self.new.house result }
+        ensures leads { IsLedTo K.origin self.old.house.past self.old.house.group }
+        ensures loans { IfSome result.loans
+            (λ l. AreLoans turn.loan self.old.house self.new.house l) }
         ensures sound { IsSound self.new.house.group }
         ensures job { result.job ≡ turn.job }
         ensures ran { result.ran ≡ true }

@@ -1,7 +1,7 @@
 //! A burst that comes while a node's store is held back: the node stores and delivers all of it.
 
 ghost use Rattle.std.specs.Prelude.{◌≡◌};
-ghost use Rattle.urb_show.specs.Lists.{lists_in};
+ghost use Rattle.urb_show.specs.Houses.{IsNamed};
 
 use super::{open_group, open_hub, submit};
 use crossbeam_channel::{Receiver, Sender};
@@ -173,7 +173,7 @@ fn run_burst<K: HouseName + Send + Sync, L: HubName + Send + Sync, R>(
 ) -> Option<((bool, usize), usize)>
 where
     R: Threads + Wait + Clock + Sync + Net<Listener = TcpListener, Stream = TcpStream>,
-    requires names { (opened.book ≡ K.book) × (lists_in opened.group ≡ K.base) }
+    requires names { IsNamed opened K.book K.history K.base K.origin }
     requires name { blank.name ≡ L.name }
     requires parts { (blank.parts ≡ L.parts) × (L.parts ≡ 2) × (opened.group.size.n ≡ 2) }
     requires start { L.start ≡ 0 }

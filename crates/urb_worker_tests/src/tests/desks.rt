@@ -1,7 +1,7 @@
 //! Sessions of clients at the desk of a running node.
 
 ghost use Rattle.std.specs.Prelude.{◌≡◌, ◌≤◌, length};
-ghost use Rattle.urb_show.specs.Lists.{lists_in};
+ghost use Rattle.urb_show.specs.Houses.{IsNamed};
 
 use super::{open_group, open_hall, open_hub, service_of};
 use crossbeam_channel::Sender;
@@ -85,7 +85,7 @@ fn run_session<
     L: HubName + Send + Sync,
     R: Threads + Wait + Clock + Sync,
 >(rt: &R, alloc: Global, opened: Opened, blank: Blank) -> Option<(bool, bool, u64)>
-    requires names { (opened.book ≡ K.book) × (lists_in opened.group ≡ K.base) }
+    requires names { IsNamed opened K.book K.history K.base K.origin }
     requires name { blank.name ≡ L.name }
     requires parts { (blank.parts ≡ L.parts) × (L.parts ≡ 1) × (opened.group.size.n ≡ 1) }
     requires start { L.start ≡ 0 }

@@ -1,7 +1,7 @@
 //! A gate is called only for jobs whose record a store is to keep.
 
 ghost use Rattle.std.specs.Prelude.{◌≡◌};
-ghost use Rattle.urb_show.specs.Lists.{lists_in};
+ghost use Rattle.urb_show.specs.Houses.{IsNamed};
 
 use super::{open_group, open_hub, submit};
 use std::alloc::Global;
@@ -82,7 +82,7 @@ fn run_drafts<K: HouseName, L: HubName, R: Wait>(
     blank: Blank,
     jobs: Vec<Job>,
 ) -> Option<u64>
-    requires names { (opened.book ≡ K.book) × (lists_in opened.group ≡ K.base) }
+    requires names { IsNamed opened K.book K.history K.base K.origin }
     requires name { blank.name ≡ L.name }
     requires parts { (blank.parts ≡ L.parts) × (L.parts ≡ 1) × (opened.group.size.n ≡ 1) }
     requires start { L.start ≡ 0 }

@@ -2,7 +2,7 @@
 //! gate before the store or inside it.
 
 ghost use Rattle.std.specs.Prelude.{◌≡◌};
-ghost use Rattle.urb_show.specs.Lists.{lists_in};
+ghost use Rattle.urb_show.specs.Houses.{IsNamed};
 
 use super::shorts::{Said, Short, short_of};
 use super::{open_group, open_hub, submit};
@@ -233,7 +233,7 @@ fn two_workers<
     gate: &G,
     signs: &Signs,
 ) -> Option<Outcome>
-    requires names { (opened.book ≡ K.book) × (lists_in opened.group ≡ K.base) }
+    requires names { IsNamed opened K.book K.history K.base K.origin }
     requires name { blank.name ≡ L.name }
     requires parts { (blank.parts ≡ L.parts) × (L.parts ≡ 2) × (opened.group.size.n ≡ 2) }
     requires start { L.start ≡ 0 }

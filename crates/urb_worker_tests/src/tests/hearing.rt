@@ -1,7 +1,7 @@
 //! Nodes that report their certificates: once each node has heard of all, ticks send nothing.
 
 ghost use Rattle.std.specs.Prelude.{◌≡◌, ◌<◌};
-ghost use Rattle.urb_show.specs.Lists.{lists_in};
+ghost use Rattle.urb_show.specs.Houses.{IsNamed};
 
 use super::{open_group, open_hub, submit};
 use std::alloc::Global;
@@ -126,7 +126,7 @@ fn run_until_quiet<K: HouseName, L: HubName, R: Wait + Clock>(
     stores: Vec<MemStable>,
     count: u8,
 ) -> Option<((usize, usize, usize), bool)>
-    requires names { (opened.book ≡ K.book) × (lists_in opened.group ≡ K.base) }
+    requires names { IsNamed opened K.book K.history K.base K.origin }
     requires name { blank.name ≡ L.name }
     requires parts { (blank.parts ≡ L.parts) × (L.parts ≡ count) × (opened.group.size.n ≡ count) }
     requires count { 0 < count }

@@ -1,7 +1,7 @@
 //! What a worker does besides its tickets: packets that it feeds, and ticks.
 
 ghost use Rattle.std.specs.Prelude.{◌≡◌, ◌≤◌};
-ghost use Rattle.urb_show.specs.Lists.{lists_in};
+ghost use Rattle.urb_show.specs.Houses.{IsNamed};
 
 use super::feeds::{make_stores, open_over};
 use super::open_hub;
@@ -131,7 +131,7 @@ fn count_events<K: HouseName + Send + Sync, L: HubName + Send + Sync, R>(
 ) -> Option<u64>
 where
     R: Threads + Wait + Clock + Sync,
-    requires names { (opened.book ≡ K.book) × (lists_in opened.group ≡ K.base) }
+    requires names { IsNamed opened K.book K.history K.base K.origin }
     requires name { blank.name ≡ L.name }
     requires parts { (blank.parts ≡ L.parts) × (L.parts ≡ 3) × (opened.group.size.n ≡ 3) }
     requires start { L.start ≡ 0 }

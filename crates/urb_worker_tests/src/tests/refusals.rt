@@ -2,7 +2,7 @@
 //! node.
 
 ghost use Rattle.std.specs.Prelude.{◌≡◌, ◌≤◌, IfSome, length};
-ghost use Rattle.urb_show.specs.Lists.{lists_in};
+ghost use Rattle.urb_show.specs.Houses.{IsNamed};
 
 use super::{open_hall, open_hub, service_of};
 use crossbeam_channel::Sender;
@@ -141,7 +141,7 @@ fn run_session<
     sent: &[u8],
     answered: &[u8],
 ) -> Option<bool>
-    requires names { (opened.book ≡ K.book) × (lists_in opened.group ≡ K.base) }
+    requires names { IsNamed opened K.book K.history K.base K.origin }
     requires name { blank.name ≡ L.name }
     requires parts { (blank.parts ≡ L.parts) × (L.parts ≡ 1) × (opened.group.size.n ≡ 1) }
     requires start { L.start ≡ 0 }

@@ -1,7 +1,7 @@
 //! Groups of seven nodes: a tick whose outbox is full, and a message that comes to all.
 
 ghost use Rattle.std.specs.Prelude.{◌≡◌};
-ghost use Rattle.urb_show.specs.Lists.{lists_in};
+ghost use Rattle.urb_show.specs.Houses.{IsNamed};
 
 use super::{open_group, open_hub, submit};
 use std::alloc::Global;
@@ -60,7 +60,7 @@ fn run_ticks<K: HouseName, L: HubName, R: Wait>(
     blank: Blank,
     messages: u32,
 ) -> Option<usize>
-    requires names { (opened.book ≡ K.book) × (lists_in opened.group ≡ K.base) }
+    requires names { IsNamed opened K.book K.history K.base K.origin }
     requires name { blank.name ≡ L.name }
     requires parts { (blank.parts ≡ L.parts) × (L.parts ≡ 7) × (opened.group.size.n ≡ 7) }
     requires start { L.start ≡ 0 }

@@ -2,7 +2,7 @@
 
 ghost use Rattle.std.specs.Prelude.{◌≡◌, ◌≤◌, length};
 ghost use Rattle.urb_client.specs.Requests.{IsAsked, asked_by};
-ghost use Rattle.urb_show.specs.Lists.{lists_in};
+ghost use Rattle.urb_show.specs.Houses.{IsNamed};
 
 use super::{open_group, open_hall, service_of};
 use crossbeam_channel::{Receiver, Sender};
@@ -126,7 +126,7 @@ fn ask_desk<K: HouseName + Send + Sync, R: Threads + Wait + Clock + Sync>(
     fault: Fault,
     refusal: u8,
 ) -> Option<bool>
-    requires names { (opened.book ≡ K.book) × (lists_in opened.group ≡ K.base) }
+    requires names { IsNamed opened K.book K.history K.base K.origin }
     requires nodes { opened.group.size.n ≡ 1 }
 {
     let (house, mut readers) = match opened.parts::<K, R>(rt, alloc) {

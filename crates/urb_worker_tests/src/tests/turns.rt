@@ -1,7 +1,7 @@
 //! Turns on a House, without threads.
 
 ghost use Rattle.std.specs.Prelude.{◌≡◌};
-ghost use Rattle.urb_show.specs.Lists.{lists_in};
+ghost use Rattle.urb_show.specs.Houses.{IsNamed};
 
 use super::shorts::{News, Said, Short, short_of};
 use super::{open_group, open_hub, submit};
@@ -129,7 +129,7 @@ fn run_crashed_turn<K: HouseName, R: Wait>(
     alloc: Global,
     opened: Opened,
 ) -> Option<(bool, u64)>
-    requires names { (opened.book ≡ K.book) × (lists_in opened.group ≡ K.base) }
+    requires names { IsNamed opened K.book K.history K.base K.origin }
 {
     let (mut house, readers) = match opened.parts::<K, R>(rt, alloc) {
         Ok(parts) => parts,
@@ -150,7 +150,7 @@ fn run_other_turns<K: HouseName, R: Wait>(
     alloc: Global,
     opened: Opened,
 ) -> Option<(bool, u64)>
-    requires names { (opened.book ≡ K.book) × (lists_in opened.group ≡ K.base) }
+    requires names { IsNamed opened K.book K.history K.base K.origin }
 {
     let (mut house, readers) = match opened.parts::<K, R>(rt, alloc) {
         Ok(parts) => parts,
@@ -190,7 +190,7 @@ fn run_misrouted<K: HouseName, L: HubName, R: Wait>(
     opened: Opened,
     blank: Blank,
 ) -> Option<(bool, bool, bool, u64)>
-    requires names { (opened.book ≡ K.book) × (lists_in opened.group ≡ K.base) }
+    requires names { IsNamed opened K.book K.history K.base K.origin }
     requires name { blank.name ≡ L.name }
     requires parts { (blank.parts ≡ L.parts) × (L.parts ≡ 2) × (opened.group.size.n ≡ 2) }
     requires start { L.start ≡ 0 }

@@ -1,4 +1,5 @@
 use Rattle.std.proofs.Common.{[], ap, subst, ◌≡◌, ◌∙◌}
+use Rattle.urb_show.specs.declared.entry.Addition.{Addition}
 use Rattle.urb_show.proofs.GroupLists.{lists_agree}
 use Rattle.urb_show.proofs.PublishingSteps.{first_issue}
 use Rattle.urb_show.specs.internal.History.{MarkView, issue_of}
@@ -12,7 +13,7 @@ new-requires-clause-rule g c =
     let book = c.mark.ensures ∙ ap (λ b. record { book = b; log = [] }) c.requires.names.0 in
     let is : c.new-first.result ≡ issue_of g.K.HouseName.book base [] =
     c.new-first.ensures ∙ (ap (λ (ls : Lists). record { lists = ls; mark = c.mark.result })
-    lists ∙ ap (λ (m : MarkView). record { lists = base; mark = m }) book) in
+    lists ∙ ap (λ (m : MarkView Addition). record { lists = base; mark = m }) book) in
     first_issue g.K.HouseName.book base c.new-first.result is
     (subst Agree c.requires.names.1
     (lists_agree c.args.group.now c.recall_deliveries.ensures.agree))

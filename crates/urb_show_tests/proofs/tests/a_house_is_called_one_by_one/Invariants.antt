@@ -3,4 +3,10 @@ use Rattle.urb_show_tests.proofs.tests.a_house_is_called_one_by_one.Given as goa
 
 -- the house that was just opened
 abbrev pub ghosts-walk : goal.ghosts-walk
-ghosts-walk g a = record { book = a.opened.book; base = lists_in a.opened.group }
+ghosts-walk g a =
+    record {
+      book = a.opened.book;
+      history = a.opened.history;
+      base = lists_in a.opened.group;
+      origin = a.opened.group;
+    }

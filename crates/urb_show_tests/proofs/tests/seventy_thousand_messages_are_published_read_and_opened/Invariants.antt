@@ -3,8 +3,20 @@ use Rattle.urb_show_tests.proofs.tests.seventy_thousand_messages_are_published_r
 
 -- the new house
 abbrev pub ghosts-publish_many : goal.ghosts-publish_many
-ghosts-publish_many g a = record { book = a.opened.book; base = lists_in a.opened.group }
+ghosts-publish_many g a =
+    record {
+      book = a.opened.book;
+      history = a.opened.history;
+      base = lists_in a.opened.group;
+      origin = a.opened.group;
+    }
 
 -- the house that was opened from the store
 abbrev pub ghosts-go_on : goal.ghosts-go_on
-ghosts-go_on g a = record { book = a.opened.book; base = lists_in a.opened.group }
+ghosts-go_on g a =
+    record {
+      book = a.opened.book;
+      history = a.opened.history;
+      base = lists_in a.opened.group;
+      origin = a.opened.group;
+    }

@@ -4,7 +4,7 @@ use Rattle.urb_worker.proofs.laws.what_is_told_as_stored_is_kept.Goals as goal
 use Rattle.urb_worker.specs.Turns.{Ends}
 
 pub returns : goal.returns
-returns g c j before after came done turn said =
+returns g c opened j before after came done turn said =
     let kept =
     stored-in g.S.Stable before after j turn.lent turn.given_back turn.lent_again turn.left
     turn.at turn.new turn.events (came.events - turn.events)

@@ -1,9 +1,31 @@
+use Rattle.std.proofs.Common.{ap}
 use Rattle.urb_group.specs.Step.{Fail}
-use Rattle.urb_show.proofs.GroupLists.{goes_down_follow, house_after}
+use Rattle.urb_show.proofs.GroupLists.{house_after, goes_down_follow}
+use Rattle.urb_show.proofs.PastEvents.{has_past_after, told_after}
+use Rattle.urb_show.proofs.ToldReplies.{recorded, goes_down_step}
+use Rattle.urb_show.specs.Houses.{HouseView}
+use Rattle.urb_node.specs.Replies.{WentDown}
 use Rattle.urb_show.proofs.house.House.fail.Goals as goal
 
 pub invariant_of-self : goal.invariant_of-self
 invariant_of-self g c =
-    house_after _ _ (Fail c.args.doubt.node)
-    _ _ c.self.invariant c.events_after-self-inside.ensures.nodes
-    (goes_down_follow _ _ c.args.doubt.node _ c.fail-done.result c.fail-done.ensures)
+    let follows =
+    goes_down_follow _ _ c.args.doubt.node _ c.fail-done.result c.fail-done.ensures in (
+      house_after _ _ (Fail c.args.doubt.node)
+          c.fail-done.result _ _ c.self.invariant.0
+          c.events_after-self-inside.ensures.nodes follows,
+      has_past_after _ _ _ (Fail c.args.doubt.node)
+          c.fail-done.result _ _ _ _ _ _ c.self.invariant.1
+          c.with-longer.ensures c.copy.ensures c.past_after.ensures
+          c.events_after-self-inside.ensures.count follows,
+      told_after _ _ _ _ _ _ c.fail-done.result c.self.invariant.2 c.with-longer.ensures
+          c.copy.ensures c.past_after.ensures,
+    )
+
+pub returns-clause-past : goal.returns-clause-past
+returns-clause-past g c =
+    recorded _ _ _ (Fail c.args.doubt.node) (λ done. WentDown c.args.doubt.node)
+    c.fail-done.result _ _ _ _ _ c.self.invariant.1.leads
+    (goes_down_step _ _ (Fail c.args.doubt.node) c.args.doubt.node _ c.fail-done.ensures)
+    c.with-longer.ensures c.copy.ensures c.past_after.ensures
+    (ap (λ (h : HouseView). h.past) c.self.view_is)

@@ -29,7 +29,7 @@ add-requires-clause-agree g c =
     (list_at (lists_in h.group) (c.args.node - 1))) (sym c.self.view_is) c.requires.lacks in
     let next : IsNext group base all a k (slice_set c.self.inside.prepared.items a.place (k + 1)) =
     is_next group base all a c.self.inside.prepared.items k
-    (c.args.node - 1) place c.self.invariant in_group c.index-index.ensures lacks
+    (c.args.node - 1) place c.self.invariant.0 in_group c.index-index.ensures lacks
     c.in_ok-entry.ensures in
     let same : c.flush.new.self.all ≡ all =
     ap (λ (p : PublisherView). p.all) c.in_ok-flush.ensures in
@@ -55,7 +55,7 @@ overflow_add-index g c =
     (list_at (lists_in h.group) (c.args.node - 1))) (sym c.self.view_is) c.requires.lacks in
     let next : IsNext group base all a k (slice_set c.self.inside.prepared.items a.place (k + 1)) =
     is_next group base all a c.self.inside.prepared.items k
-    (c.args.node - 1) place c.self.invariant in_group c.index-index.ensures lacks
+    (c.args.node - 1) place c.self.invariant.0 in_group c.index-index.ensures lacks
     c.in_ok-entry.ensures in
     let short = (lists_agree group c.recall_deliveries.ensures.agree).short a.place in
     let index = next.index in
@@ -86,7 +86,7 @@ invariant_of-self-2 g c =
     (list_at (lists_in h.group) (c.args.node - 1))) (sym c.self.view_is) c.requires.lacks in
     let next : IsNext group base all a k (slice_set c.self.inside.prepared.items a.place (k + 1)) =
     is_next group base all a c.self.inside.prepared.items k
-    (c.args.node - 1) place c.self.invariant in_group c.index-index.ensures lacks
+    (c.args.node - 1) place c.self.invariant.0 in_group c.index-index.ensures lacks
     c.in_ok-entry.ensures in
     let same : c.flush.new.self.all ≡ all =
     ap (λ (p : PublisherView). p.all) c.in_ok-flush.ensures in
@@ -95,7 +95,7 @@ invariant_of-self-2 g c =
     ∙ ap (λ (w : List Addition). w ++ a ∷ []) same in
     let added : lists_of base c.add.new.self.all ≡ lists_of base (all ++ a ∷ []) =
     ap (lists_of base) now in
-    rw added next.house
+    (rw added next.house, c.self.invariant.1, c.self.invariant.2)
 
 pub returns : goal.returns
 returns g c =
@@ -115,7 +115,7 @@ returns g c =
     (list_at (lists_in h.group) (c.args.node - 1))) (sym c.self.view_is) c.requires.lacks in
     let next : IsNext group base all a k (slice_set c.self.inside.prepared.items a.place (k + 1)) =
     is_next group base all a c.self.inside.prepared.items k
-    (c.args.node - 1) place c.self.invariant in_group c.index-index.ensures lacks
+    (c.args.node - 1) place c.self.invariant.0 in_group c.index-index.ensures lacks
     c.in_ok-entry.ensures in
     let same : c.flush.new.self.all ≡ all =
     ap (λ (p : PublisherView). p.all) c.in_ok-flush.ensures in
@@ -134,6 +134,7 @@ returns g c =
       grew = record {
         group = ap (λ (h : HouseView). h.group) c.self.view_is;
         events = ap (λ (h : HouseView). h.events) c.self.view_is;
+        past = ap (λ (h : HouseView). h.past) c.self.view_is;
         published = ap (lists_of base) shown ∙ ap (λ (h : HouseView). h.published) c.self.view_is;
         others =
             λ q apart. ap (λ (ls : Lists). list_at ls q) added

@@ -22,7 +22,7 @@ returns-in-Ok-page-clause-page g c =
     let good : IsIssue g.K.HouseName.book base c.get-published.result.now =
     subst (IsIssue g.K.HouseName.book base) (sym c.get-published.ensures) c.in-Ok.ensures.1.0 in
     let log : c.get-published.result.now.mark.log ≡ c.copy_after-token-2.result =
-    ap (λ (m : MarkView). m.log) (sym c.mark.ensures)
+    ap (λ (m : MarkView Addition). m.log) (sym c.mark.ensures)
     ∙ (sym c.token.ensures ∙ (sym one.same ∙ sym two.same)) in
     let lists : c.get-published.result.now.lists ≡ lists_of base c.copy_after-token-2.result =
     good.lists ∙ ap (lists_of base) log in
@@ -53,7 +53,7 @@ returns-clause-refused g c =
     let good : IsIssue g.K.HouseName.book base c.get-published.result.now =
     subst (IsIssue g.K.HouseName.book base) (sym c.get-published.ensures) c.in-Ok.ensures.1.0 in
     let log : c.get-published.result.now.mark.log ≡ c.copy_after-token-2.result =
-    ap (λ (m : MarkView). m.log) (sym c.mark.ensures)
+    ap (λ (m : MarkView Addition). m.log) (sym c.mark.ensures)
     ∙ (sym c.token.ensures ∙ (sym one.same ∙ sym two.same)) in
     let lists : c.get-published.result.now.lists ≡ lists_of base c.copy_after-token-2.result =
     good.lists ∙ ap (lists_of base) log in

@@ -2,6 +2,7 @@ use Rattle.std.proofs.Common.{sym, ◌∙◌}
 use Rattle.std.proofs.lemmas.Bool.{false≢true}
 use Rattle.urb_worker.proofs.desk.NodeDesk.respond_if_asked.Goals as goal
 
-pub returns-else-is_turn_of-clause-told : goal.returns-else-is_turn_of-clause-told
-returns-else-is_turn_of-clause-told g c is =
-    absurd (false≢true (sym c.if-is_turn_of.false ∙ c.is_turn_of.ensures.each (rw (← c.self.view_is) at is)))
+pub returns-then-is_turn_of-clause-told : goal.returns-then-is_turn_of-clause-told
+returns-then-is_turn_of-clause-told g c is follows =
+    absurd (false≢true (sym c.if-is_turn_of.false
+    ∙ c.is_turn_of.ensures.each (rw (← c.self.view_is) at is)))

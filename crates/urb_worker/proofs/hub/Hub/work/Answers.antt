@@ -8,11 +8,13 @@ use Rattle.urb_worker.specs.WholeTurns.{Does}
 pub returns-then-is_stored-clause-turn : goal.returns-then-is_stored-clause-turn
 returns-then-is_stored-clause-turn g c =
     let runs : runs_at c.args.node c.args.job ≡ true = search rules in
-    subst (λ b. Does g.S.Stable c.args.node b c.args.job c.args.store.now c.args.store.now
-    c.finish-done.result) (sym runs)
-    (whole g.S.Stable c.args.node c.args.job c.args.store.now c.args.store.now c.finish-done.result
-    _ _ _ _ c.begin-turn.result c.begin-turn.result runs c.begin-turn.ensures.job refl
-    c.finish-done.ensures.sound
+    subst (λ b. Does g.S.Stable g.K.HouseName.origin c.args.node b c.args.job c.args.store.now
+    c.args.store.now c.finish-done.result) (sym runs)
+    (whole g.S.Stable g.K.HouseName.origin c.args.node c.args.job
+    c.args.store.now c.args.store.now c.finish-done.result
+    _ _ _ _ c.begin-turn.result c.begin-turn.result runs c.begin-turn.ensures.job refl refl
+    c.finish-done.ensures.sound c.begin-turn.ensures.leads c.finish-done.ensures.leads
+    c.begin-turn.ensures.loan c.finish-done.ensures.loans
     c.begin-turn.ensures.step (stores_none g.S.Stable c.args.store.now c.args.store.now
     c.begin-turn.result.stage (search rules)) c.finish-done.ensures.step)
 
@@ -20,10 +22,13 @@ returns-then-is_stored-clause-turn g c =
 pub returns-clause-turn : goal.returns-clause-turn
 returns-clause-turn g c =
     let runs : runs_at c.args.node c.args.job ≡ true = search rules in
-    subst (λ b. Does g.S.Stable c.args.node b c.args.job c.args.store.now c.store-turn.new.store
-    c.finish-finished.result) (sym runs)
-    (whole g.S.Stable c.args.node c.args.job c.args.store.now c.store-turn.new.store
+    subst (λ b. Does g.S.Stable g.K.HouseName.origin c.args.node b c.args.job c.args.store.now
+    c.store-turn.new.store c.finish-finished.result) (sym runs)
+    (whole g.S.Stable g.K.HouseName.origin c.args.node c.args.job
+    c.args.store.now c.store-turn.new.store
     c.finish-finished.result _ _ _ _ c.begin-turn.result c.store-turn.result runs
     (c.store-turn.ensures.job ∙ c.begin-turn.ensures.job)
-    c.store-turn.ensures.events c.finish-finished.ensures.sound c.begin-turn.ensures.step
+    c.store-turn.ensures.events c.store-turn.ensures.loan c.finish-finished.ensures.sound
+    c.begin-turn.ensures.leads c.finish-finished.ensures.leads c.begin-turn.ensures.loan
+    c.finish-finished.ensures.loans c.begin-turn.ensures.step
     c.store-turn.ensures.step c.finish-finished.ensures.step)

@@ -3,7 +3,12 @@ use Rattle.urb_worker_tests.proofs.tests.own_jobs.events_of.Given as goal
 
 abbrev pub ghosts-count_events-K-HouseName : goal.ghosts-count_events-K-HouseName
 ghosts-count_events-K-HouseName g a =
-    record { book = a.opened.book; base = lists_in a.opened.group }
+    record {
+      book = a.opened.book;
+      history = a.opened.history;
+      base = lists_in a.opened.group;
+      origin = a.opened.group;
+    }
 
 abbrev pub ghosts-count_events-L-Ledger : goal.ghosts-count_events-L-Ledger
 ghosts-count_events-L-Ledger g a = record { name = a.blank.name; parts = a.blank.parts }

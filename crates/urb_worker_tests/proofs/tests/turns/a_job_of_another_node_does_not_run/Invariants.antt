@@ -3,7 +3,12 @@ use Rattle.urb_worker_tests.proofs.tests.turns.a_job_of_another_node_does_not_ru
 
 abbrev pub ghosts-run_misrouted-K-HouseName : goal.ghosts-run_misrouted-K-HouseName
 ghosts-run_misrouted-K-HouseName g a =
-    record { book = a.opened.book; base = lists_in a.opened.group }
+    record {
+      book = a.opened.book;
+      history = a.opened.history;
+      base = lists_in a.opened.group;
+      origin = a.opened.group;
+    }
 
 abbrev pub ghosts-run_misrouted-L-Ledger : goal.ghosts-run_misrouted-L-Ledger
 ghosts-run_misrouted-L-Ledger g a = record { name = a.blank.name; parts = a.blank.parts }

@@ -1,17 +1,17 @@
 use Rattle.std.proofs.Common.{sym, ◌∙◌, ap}
 use Rattle.urb_show.proofs.HistoryAdditions.{adds_moves}
-use Rattle.urb_show.proofs.history.tokens.HistoryToken.add.Goals as goal
+use Rattle.urb_show.proofs.history.tokens.Token.add.Goals as goal
 
 pub compare_exchange-found-requires : goal.compare_exchange-found-requires
 compare_exchange-found-requires g c =
-    let h = c.args.book.now.head_is in
+    let h = c.book.invariant in
     let offer = c.plain-offer.ensures in
     let pen = c.no_pen-pen.ensures in (
       ap (λ w. w.tracked) h,
       c.self.invariant.1 ∙ sym (ap (λ w. w.book) h),
       pen.0 ∙ (c.self.invariant.1 ∙ sym (ap (λ w. w.book) h)),
       offer.0,
-      rw (ap (λ w. w.key) h, pen.1, offer.1, offer.3)
-          (adds_moves c.self.inside.seen.log c.args.addition.now c.self.inside.count
+      rw (ap (λ w. w.key) h, pen.1, offer.1, offer.3 ∙ c.requires)
+          (adds_moves c.self.inside.seen.log (g.M.Plain.ask c.args.about.now) c.self.inside.count
           (sym c.self.invariant.0)),
     )

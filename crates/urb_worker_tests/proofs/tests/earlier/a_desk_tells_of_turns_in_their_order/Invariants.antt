@@ -1,0 +1,11 @@
+use Rattle.urb_show.specs.Lists.{lists_in}
+use Rattle.urb_worker_tests.proofs.tests.earlier.a_desk_tells_of_turns_in_their_order.Given as goal
+
+abbrev pub ghosts-ask_desk : goal.ghosts-ask_desk
+ghosts-ask_desk g a =
+    record {
+      book = a.opened.book;
+      history = a.opened.history;
+      base = lists_in a.opened.group;
+      origin = a.opened.group;
+    }
