@@ -7,14 +7,13 @@ use Rattle.urb_stable.specs.declared.stable.Stable.{Ghosts}
 use Rattle.urb_group.specs.StoreOpenings.{HasStopped}
 use Rattle.urb_group.specs.GroupViews.{GroupView}
 use Rattle.urb_group.specs.World.{World}
-use Rattle.urb_worker.specs.ServedStores.{AreServed}
 use Rattle.urb_daemon.specs.declared.serve_fault.ServeFault.{ServeFault}
 use Rattle.urb_daemon.specs.declared.serve_fault.ServeFault.TheVariants.{Network, Unopened}
 use Rattle.urb_daemon.specs.declared.network_fault.NetworkFault.{NetworkFault}
 use Rattle.urb_folder.specs.GroupsAfterStop.{ContinuesTogether}
 use Rattle.urb_folder.specs.AskedStores.{OpensTogether}
 use Rattle.urb_daemon.specs.RunsAfterStop.{EndsAfterStop}
-use Rattle.urb_daemon.specs.Runs.{EndsAs, EndsFrom}
+use Rattle.urb_daemon.specs.Runs.{EndsAs, EndsFrom, HaveServed}
 use Rattle.urb_daemon.specs.internal.Runs.{end_of}
 
 -- ---- how a run ends
@@ -41,7 +40,7 @@ pub ends-opened :
     (result : Result GroupView Refusal) (group : GroupView) (asked lasts : List S) (told : Bool)
     (end : Result ℕ ServeFault)
     → size ≡ own → result ≡ Ok group → OpensTogether g size stores result asked
-    → AreServed g asked lasts → EndsAs told end → EndsFrom g own stores told end lasts
+    → HaveServed g group asked lasts → EndsAs told end → EndsFrom g own stores told end lasts
 ends-opened g size own stores result group asked lasts told end same is opens served ends =
     let from = subst (λ r. OpensTogether g size stores r asked) is opens in
     inr (record {
@@ -63,7 +62,7 @@ pub served-after-stop :
     → size ≡ own → result ≡ Ok group → OpensTogether g size stores result asked
     → ((old : GroupView) (w : World) → HasStopped g old w size stores
     → ContinuesTogether g old w size stores result asked)
-    → AreServed g asked lasts → EndsAs told end
+    → HaveServed g group asked lasts → EndsAs told end
     → (old : GroupView) (w : World) → HasStopped g old w own stores
     → EndsAfterStop g old w own stores told end lasts
 served-after-stop g size own stores result group asked lasts told end same is opens goes_on served

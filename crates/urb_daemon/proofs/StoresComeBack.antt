@@ -8,9 +8,7 @@ use Rattle.urb_stable.specs.declared.stable.Stable.{Ghosts}
 use Rattle.urb_stable.specs.declared.stable.StoreFault.{StoreFault}
 use Rattle.urb_group.specs.StoreOpenings.{AllGive}
 use Rattle.urb_group.specs.GroupViews.{GroupView}
-use Rattle.urb_worker.proofs.ServedStores.{unserved}
-use Rattle.urb_worker.specs.ServedStores.{AreServed}
-use Rattle.urb_daemon.specs.Runs.{ComeBack, MayAllBeAsked}
+use Rattle.urb_daemon.specs.Runs.{ComeBack, HaveServed, MayAllBeAsked}
 use Rattle.urb_folder.specs.AskedStores.{AllAnswer, AreRefusedTogether, OpensTogether}
 use Rattle.urb_stable.specs.StableStorage.{list_in}
 
@@ -56,16 +54,20 @@ asked_to_open g size stores (Err why) asked (inl unready) = refused g stores why
 asked_to_open g size stores (Err why) asked (inr opens) =
     all_given g stores opens.images asked opens.given
 
--- stores that were asked, and then served a run
+-- stores that were asked, and then served a run of this group
 pub come_back : {S A : Type 0} (g : Ghosts S A) (size : Limits) (stores : List S)
-    (result : Result GroupView Refusal) (asked lasts : List S)
-    → OpensTogether g size stores result asked → AreServed g asked lasts → ComeBack g stores lasts
-come_back g size stores result asked lasts opens served =
-    record { asked = asked; first = asked_to_open g size stores result asked opens; then = served }
+    (result : Result GroupView Refusal) (asked lasts : List S) (group : GroupView)
+    → OpensTogether g size stores result asked → HaveServed g group asked lasts
+    → ComeBack g stores lasts
+come_back g size stores result asked lasts group opens served = record {
+  asked = asked;
+  first = asked_to_open g size stores result asked opens;
+  then = inr (group, served);
+}
 
 -- stores that were asked, and no run followed
 pub come_back_at_once : {S A : Type 0} (g : Ghosts S A) (size : Limits) (stores : List S)
     (result : Result GroupView Refusal) (asked : List S) → OpensTogether g size stores result asked
     → ComeBack g stores asked
 come_back_at_once g size stores result asked opens =
-    come_back g size stores result asked asked opens (unserved g asked)
+    record { asked = asked; first = asked_to_open g size stores result asked opens; then = inl refl }

@@ -1,5 +1,6 @@
 -- How a run of a group ends, and its stores after it.
-use Rattle.std.specs.Prelude.{Bool, Err, List, Ok, Result, [], false, true, ℕ, ◌∷◌, ◌≡◌, ◌⊎◌}
+use Rattle.std.specs.Prelude.{Bool, Err, List, Ok, Result, [], false, length, true, ℕ, ◌∷◌, ◌≡◌}
+use Rattle.std.specs.Prelude.{◌⊎◌}
 use Rattle.urb_names.specs.LabelsAndContents.{Limits}
 use Rattle.urb_names.specs.declared.refusal.Refusal.{Refusal}
 use Rattle.urb_stable.specs.Entries.{Entry}
@@ -7,7 +8,7 @@ use Rattle.urb_stable.specs.declared.stable.Stable.{Ghosts}
 use Rattle.urb_stable.specs.declared.stable.StoreFault.{StoreFault}
 use Rattle.urb_group.specs.StoreQuestions.{Gives}
 use Rattle.urb_group.specs.GroupViews.{GroupView}
-use Rattle.urb_worker.specs.ServedStores.{AreServed}
+use Rattle.urb_worker.specs.ServedStores.{AreServed, numbers_from}
 use Rattle.urb_cli.specs.declared.command_line.options.ServeOptions.{ServeOptions}
 use Rattle.urb_daemon.specs.declared.serve_fault.ServeFault.{ServeFault}
 use Rattle.urb_daemon.specs.declared.serve_fault.ServeFault.TheVariants.{Network, NoMemory, Unopened}
@@ -40,12 +41,17 @@ module _ {S A : Type 0} (g : Ghosts S A) where
       MayBeAsked before after × MayAllBeAsked stores asked
   MayAllBeAsked stores asked = ⊥
 
-  -- The stores are returned in their order. Each was asked for its records at most once, and then
-  -- served its own node's turns.
+  -- a group that opened with this view ran over these stores, which belong to its nodes in order
+  abbrev pub HaveServed : GroupView → List S → List S → Type 0
+  HaveServed group stores lasts =
+      AreServed g group (numbers_from 1 (length stores)) stores lasts
+
+  -- The stores are returned in their order. Each was asked for its records at most once. Then no
+  -- group ran, or each served its own node's jobs in a group.
   pub record ComeBack (stores lasts : List S) : Type 0 where
     pub asked : List S
     pub first : MayAllBeAsked stores asked
-    pub then : AreServed g asked lasts
+    pub then : (lasts ≡ asked) ⊎ ((group : GroupView) × HaveServed group asked lasts)
 
   -- the group could not be opened from these stores, and the run ends with that refusal
   pub record EndsUnopened (size : Limits) (stores : List S) (end : Result ℕ ServeFault)
@@ -60,7 +66,7 @@ module _ {S A : Type 0} (g : Ghosts S A) where
     pub group : GroupView
     pub asked : List S
     pub opens : OpensTogether g size stores (Ok group) asked
-    pub served : AreServed g asked lasts
+    pub served : HaveServed group asked lasts
     pub ends : EndsAs told end
 
   -- how a run over these stores ends, and the stores after it, depending on whether its opening was

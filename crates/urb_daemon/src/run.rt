@@ -5,10 +5,9 @@ ghost use Rattle.std.specs.Io.KnownBytes.{Appends};
 ghost use Rattle.urb_group.specs.StoreOpenings.{HasStopped};
 ghost use Rattle.urb_group.specs.GroupViews.{GroupView};
 ghost use Rattle.urb_group.specs.World.{World};
-ghost use Rattle.urb_worker.specs.ServedStores.{AreServed};
 ghost use Rattle.urb_daemon.specs.Endings.{ShowsEnd, closed_line};
 ghost use Rattle.urb_daemon.specs.RunsAfterStop.{EndsAfterStop};
-ghost use Rattle.urb_daemon.specs.Runs.{ComeBack, EndsFrom, limits_of};
+ghost use Rattle.urb_daemon.specs.Runs.{ComeBack, EndsFrom, HaveServed, limits_of};
 ghost use Rattle.urb_daemon.specs.internal.Runs.{end_of};
 
 use crate::console::Console;
@@ -76,8 +75,8 @@ where
     requires stores { vec_len stores ≡ group.size.n }
     requires stations { vec_len network.now.stations ≡ group.size.n }
     ensures count { vec_len result.0 ≡ vec_len stores }
-    // Each store is returned at its place, as its own node's turns left it.
-    ensures order { AreServed S.Stable stores.items result.0.items }
+    // Each store is returned at its place, as jobs of its own node in this group left it.
+    ensures order { HaveServed S.Stable group stores.items result.0.items }
 {
     let blank = Blank::new(u64::from(group.config().n()));
     let Ok(opened) = House::open(group) else {
@@ -128,7 +127,7 @@ where
     R: Host + Net<Listener = TcpListener, Stream = TcpStream>,
     requires { vec_len stores ≡ serving.nodes }
     ensures count { vec_len result.0 ≡ vec_len stores }
-    // The stores are returned in their nodes' order, each as its own node's turns left it.
+    // The stores are returned in their nodes' order, each as its own node's jobs left it.
     ensures order { ComeBack S.Stable stores.items result.0.items }
     // A count of events comes only from a run whose opening was reported. A fault is the first that
     // there was.
@@ -173,7 +172,7 @@ where
     R: Host + Net<Listener = TcpListener, Stream = TcpStream>,
     requires { vec_len journals ≡ serving.nodes }
     ensures count { vec_len result.0 ≡ vec_len journals }
-    // The journals are returned in their nodes' order, each as its own node's turns left it.
+    // The journals are returned in their nodes' order, each as its own node's jobs left it.
     ensures order { ComeBack ⟦<Journal<D> as Stable>⟧ journals.items result.0.items }
     // A count of events comes only from a run whose opening was reported. A fault is the first that
     // there was.

@@ -8,11 +8,13 @@
 -- (`others-wait`).
 -- Then read what is told of a turn. Reported changes have happened (`reported-so`,
 -- ReportedChanges), responses are true (`works_tells`, TrueResponses), and events are counted
--- (`ends_count`, EventCounts). NodeFeeds is about the jobs of a feed, Pulses about what a datagram
--- says of certificates, and ServedStores about the order of the stores. The folders `steps` and
--- `stops` of `urb_group` say what an event and a stop do.
+-- (`ends_count`, EventCounts). NodeFeeds is about the jobs of a feed, and Pulses about what a
+-- datagram says of certificates. SentPackets is about the packets of a reply. ServedStores puts a
+-- worker's jobs one after the other, and the stores in their order. The folders `steps` and `stops` of
+-- `urb_group` say what an event and a stop do.
 pub mod EventCounts
 pub mod EventNodes
+pub mod SentPackets
 pub mod ServedStores
 pub mod GrowingPasts
 pub mod TurnLoans

@@ -1,88 +1,116 @@
--- Stores in their order, as loops take them from one list and put them into another.
+-- What workers do job after job, and stores in their order, as loops take them from one list and put
+-- them into another.
 use Rattle.std.proofs.Common.{◌≡◌, ◌∙◌, ◌++◌, IfSome, List, [], ◌∷◌, None, Ok, Err, Option, Result}
-use Rattle.std.proofs.Common.{Some, append_assoc, ap, inr, sym, map, reverse}
+use Rattle.std.proofs.Common.{Some, append_assoc, ap, inl, inr, length, refl, sym, map, reverse, ℕ}
+use Rattle.std.proofs.Common.{◌+◌, zero, suc}
 use Rattle.std.proofs.Math.Logic.{∥∥₁_elim}
 use Rattle.std.proofs.Props.{props}
 use Rattle.std.proofs.lemmas.List.{reverse-append, map_push}
 use Rattle.urb_stable.specs.declared.stable.Stable.{Ghosts}
-use Rattle.urb_worker.specs.ServedStores.{AreServed, IsLeftOf, Rests, Serves, Turns, Works}
-use Rattle.urb_worker.specs.internal.ServedStores.{AllThere}
-use Rattle.urb_worker.specs.Turns.{Stores}
-use Rattle.urb_worker.specs.declared.turn_stages.Stage.{Stage}
+use Rattle.urb_group.specs.GroupViews.{GroupView}
+use Rattle.urb_worker.specs.Acts.{Act, LetsOut}
+use Rattle.urb_worker.specs.Jobs.{runs_at}
+use Rattle.urb_worker.specs.ServedStores.{AreServed, Continues, HasServed, IsLeftOf, Rests}
+use Rattle.urb_worker.specs.ServedStores.{Serves, Works, numbers_from}
+use Rattle.urb_worker.specs.Views.{FinishedView}
+use Rattle.urb_worker.specs.WholeTurns.{Does}
+use Rattle.urb_worker.specs.declared.job.Job.{Job}
+use Rattle.urb_worker.specs.internal.ServedStores.{AllThere, MayWork}
 
--- a store that nobody took
-pub not_yet : {S A : Type 0} (g : Ghosts S A) (a : S) → IsLeftOf g a a
-not_yet g a = ∣ Rests a ∣₁
+module _ {S A : Type 0} (g : Ghosts S A) (opened : GroupView) (n : ℕ) where
+  -- a job was done, and what its result says was let out
+  pub works : (job : Job) (before after : S) (old new : List Act) (done : FinishedView)
+      → Does g opened n (runs_at n job) job before after done → LetsOut old done new
+      → Works g opened n job before after old new
+  works job before after old new done does lets_out =
+      record { done = done; does = does; lets_out = lets_out }
 
--- one more turn
-pub one_turn : {S A : Type 0} (g : Ghosts S A) (a b c : S) → IsLeftOf g a b → Turns g b c
-    → IsLeftOf g a c
-one_turn g a b c so_far turn = ∥∥₁_elim so_far (hlevel props) (λ s. ∣ Works a b c s turn ∣₁)
+  -- some job was done
+  pub works_some : (job : Job) (before after : S) (old new : List Act)
+      → Works g opened n job before after old new → MayWork g opened n before after old new
+  works_some job before after old new works = inr (job, works)
 
--- one turn, or two, of a store that nobody took before
-pub first_turn : {S A : Type 0} (g : Ghosts S A) (a b : S) → Turns g a b → IsLeftOf g a b
-first_turn g a b turn = one_turn g a a b (not_yet g a) turn
+  -- no job was done
+  pub works_none : (store : S) (acts : List Act) → MayWork g opened n store store acts acts
+  works_none store acts = inl (refl, refl)
 
--- a store after two turns is the store before them after a number of turns
-pub two_turns : {S A : Type 0} (g : Ghosts S A) (a b c : S) → Turns g a b → Turns g b c
-    → IsLeftOf g a c
-two_turns g a b c first second = one_turn g a b c (first_turn g a b first) second
+  -- a worker that did no job yet
+  pub not_yet : (store : S) (acts : List Act) → HasServed g opened n store store acts acts
+  not_yet store acts = ∣ Rests store acts ∣₁
 
--- a store that did its part of one turn
-pub one_part : {S A : Type 0} (g : Ghosts S A) (a c : S) (at new : Stage) → Stores g a at c new
-    → IsLeftOf g a c
-one_part g a c at new part = ∣ Works a a c (Rests a) (inr (at, new, part)) ∣₁
+  more : (first before after : S) (start old new : List Act) → Serves g opened n first before start old
+      → MayWork g opened n before after old new → Serves g opened n first after start new
+  more first before after start old new so_far (inl same) =
+      rw (same.0, same.1) so_far
+  more first before after start old new so_far (inr (job, works)) =
+      Continues first before after start old new job so_far works
 
--- stores that nobody took
-pub unserved : {S A : Type 0} (g : Ghosts S A) (stores : List S) → AreServed g stores stores
-unserved g [] = tt
-unserved g (store ∷ stores) = (not_yet g store, unserved g stores)
+  -- a round without a ticket
+  pub one_job : (a b : S) (old new : List Act) → MayWork g opened n a b old new
+      → HasServed g opened n a b old new
+  one_job a b old new works = ∣ more a a b old old new (Rests a old) works ∣₁
 
--- one more store
-pub one_more : {S A : Type 0} (g : Ghosts S A) (firsts lasts : List S) (first last : S)
-    → AreServed g firsts lasts → IsLeftOf g first last
-    → AreServed g (firsts ++ first ∷ []) (lasts ++ last ∷ [])
-one_more g [] [] first last so_far it = (it, tt)
-one_more g [] (b ∷ ys) first last so_far it = absurd so_far
-one_more g (a ∷ xs) [] first last so_far it = absurd so_far
-one_more g (a ∷ xs) (b ∷ ys) first last so_far it =
-    (so_far.0, one_more g xs ys first last so_far.1 it)
+  -- a round with a ticket: its job, and then maybe one more
+  pub two_jobs : (job : Job) (a b c : S) (old between new : List Act)
+      → Works g opened n job a b old between → MayWork g opened n b c between new
+      → HasServed g opened n a c old new
+  two_jobs job a b c old between new first second =
+      ∣ more a b c old between new (Continues a a b old old between job (Rests a old) first) second ∣₁
 
-more_turns : {S A : Type 0} (g : Ghosts S A) (a b c : S) → Serves g a b → Serves g b c
-    → Serves g a c
-more_turns g a b c before (Rests store) = before
-more_turns g a b c before (Works first last next so_far turn) =
-    Works a last next (more_turns g a b last before so_far) turn
+  serves_on : (a b c : S) (start old new : List Act) → Serves g opened n a b start old
+      → Serves g opened n b c old new → Serves g opened n a c start new
+  serves_on a b c start old new before (Rests store acts) = before
+  serves_on a b c start old new before (Continues first last next from was is job so_far works) =
+      Continues a last next start was is job (serves_on a b last start old was before so_far) works
 
--- one more round
-pub left_again : {S A : Type 0} (g : Ghosts S A) (a b c : S) → IsLeftOf g a b → IsLeftOf g b c
-    → IsLeftOf g a c
-left_again g a b c before after =
-    ∥∥₁_elim before (hlevel props)
-    (λ s. ∥∥₁_elim after (hlevel props) (λ t. ∣ more_turns g a b c s t ∣₁))
+  -- one more round
+  pub served_on : (a b c : S) (start old new : List Act) → HasServed g opened n a b start old
+      → HasServed g opened n b c old new → HasServed g opened n a c start new
+  served_on a b c start old new before after =
+      ∥∥₁_elim before (hlevel props)
+      (λ s. ∥∥₁_elim after (hlevel props) (λ t. ∣ serves_on a b c start old new s t ∣₁))
 
--- what was served, served again
-pub served_again : {S A : Type 0} (g : Ghosts S A) (xs ys zs : List S) → AreServed g xs ys
-    → AreServed g ys zs → AreServed g xs zs
-served_again g [] [] [] before after = tt
-served_again g [] [] (c ∷ zs) before after = absurd after
-served_again g [] (b ∷ ys) zs before after = absurd before
-served_again g (a ∷ xs) [] zs before after = absurd before
-served_again g (a ∷ xs) (b ∷ ys) [] before after = absurd after
-served_again g (a ∷ xs) (b ∷ ys) (c ∷ zs) before after =
-    (left_again g a b c before.0 after.0, served_again g xs ys zs before.1 after.1)
+  -- what a worker leaves that has let nothing out before
+  pub leaves : (a b : S) (acts : List Act) → HasServed g opened n a b [] acts
+      → IsLeftOf g opened n a b
+  leaves a b acts served = ∥∥₁_elim served (hlevel props) (λ s. ∣ (acts, s) ∣₁)
+
+module _ {S A : Type 0} (g : Ghosts S A) (opened : GroupView) where
+  unserved_from : (from : ℕ) (stores : List S)
+      → AreServed g opened (numbers_from from (length stores)) stores stores
+  unserved_from from [] = tt
+  unserved_from from (store ∷ stores) =
+      (∣ ([], Rests store []) ∣₁, unserved_from (from + 1) stores)
+
+  -- stores that nobody took
+  pub unserved : (stores : List S) → AreServed g opened (numbers_from 1 (length stores)) stores stores
+  unserved stores = unserved_from 1 stores
+
+  -- one more store
+  pub one_more : (nodes : List ℕ) (firsts lasts : List S) (n : ℕ) (first last : S)
+      → AreServed g opened nodes firsts lasts → IsLeftOf g opened n first last
+      → AreServed g opened (nodes ++ n ∷ []) (firsts ++ first ∷ []) (lasts ++ last ∷ [])
+  one_more [] [] [] n first last so_far it = (it, tt)
+  one_more [] [] (b ∷ ys) n first last so_far it = absurd so_far
+  one_more [] (a ∷ xs) ys n first last so_far it = absurd so_far
+  one_more (m ∷ ms) [] ys n first last so_far it = absurd so_far
+  one_more (m ∷ ms) (a ∷ xs) [] n first last so_far it = absurd so_far
+  one_more (m ∷ ms) (a ∷ xs) (b ∷ ys) n first last so_far it =
+      (so_far.0, one_more ms xs ys n first last so_far.1 it)
+
+  -- one more store is left, if f gives the stores of the list, and h their nodes
+  pub one_left : {W : Type 0} (h : W → ℕ) (f : W → S) (ws : List W) (w : W) (lasts new : List S)
+      (last : S) → AreServed g opened (map h ws) (map f ws) lasts
+      → IsLeftOf g opened (h w) (f w) last → new ≡ lasts ++ last ∷ []
+      → AreServed g opened (map h (ws ++ w ∷ [])) (map f (ws ++ w ∷ [])) new
+  one_left h f ws w lasts new last so_far it is =
+      rw (is, map_push f ws w, map_push h ws w)
+      (one_more (map h ws) (map f ws) lasts (h w) (f w) last so_far it)
 
 -- the element at the end of a list comes first in the reversed list
 pub reverse_push : {X Y : Type 0} (f : X → Y) (xs : List X) (x : X)
     → reverse (map f (xs ++ x ∷ [])) ≡ f x ∷ reverse (map f xs)
 reverse_push f xs x = ap reverse (map_push f xs x) ∙ reverse-append (map f xs) (f x ∷ [])
-
--- one more store is left, if f gives the stores of the list
-pub one_left : {S A W : Type 0} (g : Ghosts S A) (f : W → S) (ws : List W) (w : W)
-    (lasts new : List S) (last : S) → AreServed g (map f ws) lasts → IsLeftOf g (f w) last
-    → new ≡ lasts ++ last ∷ [] → AreServed g (map f (ws ++ w ∷ [])) new
-one_left g f ws w lasts new last so_far it is =
-    rw (is, map_push f ws w) (one_more g (map f ws) lasts (f w) last so_far it)
 
 -- the last one of a list goes to the front of those that were taken
 pub takes_up : {X Y : Type 0} (f : X → Y) (old rest whole : List Y) (xs : List X) (x : X)

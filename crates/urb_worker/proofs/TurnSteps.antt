@@ -12,15 +12,13 @@ use Rattle.urb_stable.specs.PlacedRecords.{Placed}
 use Rattle.urb_stable.specs.declared.stable.Stable.{Ghosts}
 use Rattle.urb_worker.proofs.StoreKeeping.{turn-keeps, turn-leaves}
 use Rattle.urb_worker.specs.Jobs.{runs_at}
-use Rattle.urb_worker.proofs.ServedStores.{one_turn}
 use Rattle.urb_worker.proofs.TurnLoans.{loans_of}
 use Rattle.urb_worker.specs.Loans.{AreLoans, IsLoan, LoanView, LoansView}
-use Rattle.urb_worker.specs.ServedStores.{IsLeftOf, Turns}
 use Rattle.urb_worker.specs.Settlings.{Published}
 use Rattle.urb_worker.specs.Stages.{is_stored}
 use Rattle.urb_worker.specs.Turns.{Begins, CameOf, Ends, Finishes, Goes, HasBegun, Stores}
 use Rattle.urb_worker.specs.Views.{FinishedView, TurnView}
-use Rattle.urb_worker.specs.WholeTurns.{Does, IsTurnAt}
+use Rattle.urb_worker.specs.WholeTurns.{IsTurnAt}
 use Rattle.urb_worker.specs.declared.job.Job.{Job}
 use Rattle.urb_worker.specs.declared.turn_stages.Stage.{Stage}
 use Rattle.urb_worker.specs.declared.turn_stages.Stage.TheVariants as stage
@@ -174,16 +172,3 @@ module _ {S A : Type 0} (g : Ghosts S A) (opened : GroupView) (n : ℕ) where
           (done.events - k)) count
           (subst (λ (i : Job). Ends again i stored.stage left done.reply done.status done.settling
           (done.events - stored.events)) same ends)
-
-  -- what the turn did to the store
-  pub does_turn : (runs : Bool) (j : Job) (before after : S) (done : FinishedView)
-      → Does g opened n runs j before after done → Turns g before after
-  does_turn true j before after done does = inr (does.turn.at, does.turn.new, does.turn.stores)
-  does_turn false j before after done does = inl does.0
-
--- one more job
-pub one_job : {S A : Type 0} (g : Ghosts S A) (opened : GroupView) (a b c : S) (n : ℕ)
-    (runs : Bool) (j : Job) (done : FinishedView) → IsLeftOf g a b
-    → Does g opened n runs j b c done → IsLeftOf g a c
-one_job g opened a b c n runs j done so_far does =
-    one_turn g a b c so_far (does_turn g opened n runs j b c done does)

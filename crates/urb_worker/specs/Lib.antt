@@ -9,6 +9,7 @@ pub mod Changes
 pub mod ClientDesks
 pub mod ClientLimits
 pub mod WholeTurns
+pub mod Acts
 pub mod ServedStores
 pub mod Desks
 pub mod Backlogs

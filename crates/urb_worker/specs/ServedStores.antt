@@ -1,27 +1,48 @@
--- What workers do to their nodes' stores, and the order of the stores.
-use Rattle.std.specs.Prelude.{List, [], ◌∷◌, ◌≡◌, ◌⊎◌}
+-- What workers do, job after job: to their nodes' stores, and outside; and the order of the stores.
+use Rattle.std.specs.Prelude.{List, [], zero, suc, ℕ, ◌+◌, ◌∷◌}
 use Rattle.urb_stable.specs.declared.stable.Stable.{Ghosts}
-use Rattle.urb_worker.specs.Turns.{Stores}
-use Rattle.urb_worker.specs.declared.turn_stages.Stage.{Stage}
+use Rattle.urb_group.specs.GroupViews.{GroupView}
+use Rattle.urb_worker.specs.Acts.{Act, LetsOut}
+use Rattle.urb_worker.specs.Jobs.{runs_at}
+use Rattle.urb_worker.specs.Views.{FinishedView}
+use Rattle.urb_worker.specs.WholeTurns.{Does}
+use Rattle.urb_worker.specs.declared.job.Job.{Job}
 
--- one turn left a store as it was, or the store did its part of the turn
-abbrev pub Turns : {S A : Type 0} → Ghosts S A → S → S → Type 0
-Turns g before after =
-    (after ≡ before) ⊎ ((at : Stage) × (new : Stage) × Stores g before at after new)
+-- consecutive numbers, from the first one on
+abbrev pub numbers_from : ℕ → ℕ → List ℕ
+numbers_from first zero = []
+numbers_from first (suc more) = first ∷ numbers_from (first + 1) more
 
--- a store after any number of turns, one after the other
-pub data Serves {S A : Type 0} (g : Ghosts S A) : S → S → Type 0 where
-  Rests : (store : S) → Serves g store store
-  Works : (first before after : S) → Serves g first before → Turns g before after
-      → Serves g first after
+module _ {S A : Type 0} (g : Ghosts S A) (opened : GroupView) where
+  -- The worker of node n does a job: the job's whole turn on the House, with the node's store. Then
+  -- it lets out what the turn's result says, and nothing else.
+  pub record Works (n : ℕ) (job : Job) (before after : S) (old new : List Act) : Type 0 where
+    pub done : FinishedView
+    pub does : Does g opened n (runs_at n job) job before after done
+    pub lets_out : LetsOut old done new
 
--- the last store is the first one after some number of turns
-abbrev pub IsLeftOf : {S A : Type 0} → Ghosts S A → S → S → Type 0
-IsLeftOf g first last = ∥ Serves g first last ∥₁
+-- The worker of node n does any number of jobs, one after the other. They leave its store so, and it
+-- has let this out.
+pub data Serves {S A : Type 0} (g : Ghosts S A) (opened : GroupView) (n : ℕ) :
+    S → S → List Act → List Act → Type 0 where
+  Rests : (store : S) (acts : List Act) → Serves g opened n store store acts acts
+  Continues : (first before after : S) (start old new : List Act) (job : Job)
+      → Serves g opened n first before start old → Works g opened n job before after old new
+      → Serves g opened n first after start new
 
--- each store of the second list is the store of the first list at the same place, after some turns
-abbrev pub AreServed : {S A : Type 0} → Ghosts S A → List S → List S → Type 0
-AreServed g [] [] = Unit {0}
-AreServed g [] (last ∷ lasts) = ⊥
-AreServed g (first ∷ firsts) [] = ⊥
-AreServed g (first ∷ firsts) (last ∷ lasts) = IsLeftOf g first last × AreServed g firsts lasts
+module _ {S A : Type 0} (g : Ghosts S A) (opened : GroupView) where
+  -- the same, for use in clauses
+  abbrev pub HasServed : ℕ → S → S → List Act → List Act → Type 0
+  HasServed n first last start acts = ∥ Serves g opened n first last start acts ∥₁
+
+  -- the last store is the first one after some number of jobs of node n
+  abbrev pub IsLeftOf : ℕ → S → S → Type 0
+  IsLeftOf n first last = ∥ (acts : List Act) × Serves g opened n first last [] acts ∥₁
+
+  -- each store of the last list is the store of the first list at the same place, after some number
+  -- of jobs of its own node
+  abbrev pub AreServed : List ℕ → List S → List S → Type 0
+  AreServed [] [] [] = Unit {0}
+  AreServed (n ∷ nodes) (first ∷ firsts) (last ∷ lasts) =
+      IsLeftOf n first last × AreServed nodes firsts lasts
+  AreServed nodes firsts lasts = ⊥

@@ -15,7 +15,8 @@
 //! let (queue, jobs) = crossbeam_channel::bounded(alloc, 64)?;     // for each node
 //! // on threads of their own:
 //! let setting = WorkerSetting::new(rt, alloc, &hub, &link, &OpenGate, &Silent);
-//! let (tally, _) = serve_from(&setting, node, &mut store, &jobs, tally);  // to the end
+//! let mut outlets = setting.outlets_for_worker();
+//! let (tally, _) = serve_from(&setting, node, &mut store, &mut outlets, &jobs, tally); // to the end
 //! receive(rt, alloc, &stop, node, &station, &queue);              // a node's datagrams
 //! timer(rt, &stop, 100, &queues);                                 // a tick at each node each 100 ms
 //! let desk = NodeDesk::new(rt, alloc, node, service, position);    // for a client's session
@@ -39,6 +40,7 @@
 #![tactic(auto)]
 
 mod acceptor;
+mod acts;
 mod backlog;
 mod bell;
 mod change;
@@ -57,6 +59,7 @@ pub mod laws;
 mod links;
 mod listeners;
 mod loans;
+mod outlets;
 mod own_jobs;
 mod polling;
 mod pulse;
@@ -90,6 +93,7 @@ pub use in_flight::{CARRYING, FULL_BACKLOG, InFlight, LONG_BACKLOG, MOST_IN_FLIG
 pub use job::Job;
 pub use links::{Link, MemoryLink, PacedLink, UdpLink};
 pub use listeners::Watch;
+pub use outlets::WorkerOutlets;
 pub use pulse::{EARLY_TICKS, LEAST_PAUSE};
 pub use reader_pool::ReaderPool;
 pub use receiver::receive;

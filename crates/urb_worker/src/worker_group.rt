@@ -7,11 +7,12 @@ ghost use Rattle.std.specs.Prelude.{vec_len, vec_capacity};
 ghost use Rattle.urb_names.specs.declared.limits.TheConstants.{MAX_NODES};
 ghost use Rattle.urb_show.specs.Houses.{IsNamed};
 ghost use Rattle.urb_worker.specs.Counting.{count_after};
-ghost use Rattle.urb_worker.specs.ServedStores.{AreServed};
-ghost use Rattle.urb_worker.specs.internal.ServedStores.{each, numbers_from};
+ghost use Rattle.urb_worker.specs.ServedStores.{AreServed, numbers_from};
+ghost use Rattle.urb_worker.specs.internal.ServedStores.{each};
 ghost use Rattle.urb_show.specs.declared.opened_group.TheConstants.{READERS};
 
 use crate::listeners::{ListenerInput, run_listeners};
+use crate::outlets::GroupOutlets;
 use crate::polling::Polling;
 use crate::worker_threads::{Worker, WorkerInput, join_workers, start_workers};
 use crate::{
@@ -44,7 +45,7 @@ struct GroupRoom<K: HouseName, L: HubName, S: Stable<Alloc = Global>> {
     queues: Vec<Sender<Ticket<K>>>,
     jobs: Vec<Receiver<Ticket<K>>>,
     inputs: Vec<WorkerInput<K, L, S>>,
-    workers: Vec<Worker<L, S>>,
+    workers: Vec<Worker<K, L, S>>,
     stores: Vec<S>,
     tallies: Vec<Tally<L>>,
 }
@@ -179,7 +180,7 @@ pub struct GroupSetting<'a, H: Reporter, R> {
 #[derive(Drop)]
 struct WorkerGroup<K: HouseName, L: HubName, S: Stable<Alloc = Global>> {
     inputs: Vec<WorkerInput<K, L, S>>,
-    workers: Vec<Worker<L, S>>,
+    workers: Vec<Worker<K, L, S>>,
     stores: Vec<S>,
     tallies: Vec<Tally<L>>,
     ghost room: { (vec_len workers ≡ 0) × (vec_len inputs ≤ vec_capacity workers) },
@@ -213,8 +214,9 @@ where
     requires queues { vec_len listening.queues ≡ length outer.now.stations.now }
     ensures stores { vec_len result.0.0 ≡ vec_len group.inputs }
     ensures tallies { vec_len result.0.1 ≡ vec_len group.inputs }
-    ensures order { AreServed S.Stable (reverse (each group.inputs.items (λ input. input.store)))
-        result.0.0.items }
+    ensures order { AreServed S.Stable K.origin
+        (reverse (each group.inputs.items (λ input. input.node)))
+        (reverse (each group.inputs.items (λ input. input.store))) result.0.0.items }
 {
     let WorkerGroup {
         inputs,
@@ -253,8 +255,9 @@ where
     requires queues { vec_len listening.queues ≡ length outer.now.stations.now }
     ensures stores { vec_len result.0.0 ≡ vec_len group.inputs }
     ensures tallies { vec_len result.0.1 ≡ vec_len group.inputs }
-    ensures order { AreServed S.Stable (reverse (each group.inputs.items (λ input. input.store)))
-        result.0.0.items }
+    ensures order { AreServed S.Stable K.origin
+        (reverse (each group.inputs.items (λ input. input.node)))
+        (reverse (each group.inputs.items (λ input. input.store))) result.0.0.items }
 {
     let rt = outer.rt;
     let link = PacedLink::new(rt, outer.link, outer.stations);
@@ -263,9 +266,8 @@ where
         rt,
         alloc: outer.alloc,
         hub,
-        link: &link,
+        outlets: GroupOutlets::new(&link, outer.reporter),
         gate: &gate,
-        reporter: outer.reporter,
         polling: Polling::for_workers(rt, group.inputs.len()),
         mends: true,
     };
@@ -279,8 +281,9 @@ where
                 × (vec_len listening.queues ≡ length outer.now.stations.now) }
             ensures { (vec_len result.0.0 ≡ vec_len group.inputs)
                 × (vec_len result.0.1 ≡ vec_len group.inputs)
-                × AreServed S.Stable (reverse (each group.inputs.items (λ input. input.store)))
-                result.0.0.items }
+                × AreServed S.Stable K.origin
+                (reverse (each group.inputs.items (λ input. input.node)))
+                (reverse (each group.inputs.items (λ input. input.store))) result.0.0.items }
         { run_in_scope(scope, setting, outer, group, listening, watch) },
     )
 }
@@ -330,8 +333,10 @@ where
     requires stores { vec_len stores ≡ opened.group.size.n }
     requires stations { length setting.now.stations.now ≡ opened.group.size.n }
     ensures count { vec_len result.0 ≡ vec_len stores }
-    // Each store is returned at its place, as its own node's turns left it.
-    ensures order { AreServed S.Stable stores.items result.0.items }
+    // Each store is returned at its place, as jobs of its own node left it. Each job had its whole
+    // turn on the House that was opened.
+    ensures order { AreServed S.Stable opened.group (numbers_from 1 (vec_len stores)) stores.items
+        result.0.items }
 {
     let (rt, alloc) = (setting.rt, setting.alloc);
     let Ok(rooms) = reserve_room::<K, L, S>(alloc, setting.stations.len()) else {

@@ -1,12 +1,16 @@
 //! A node's worker: its tickets, one after the other.
 
-ghost use Rattle.std.specs.Prelude.{◌≡◌, [], MatchOption, false, true};
+ghost use Rattle.std.specs.Prelude.{◌≡◌, ◌++◌, [], MatchOption, false, true};
 ghost use Rattle.urb_node.specs.Replies.{packets_in};
 ghost use Rattle.urb_group.specs.Commands.{reply_of};
 ghost use Rattle.urb_worker.specs.internal.Replies.{tells_record};
 ghost use Rattle.urb_worker.specs.internal.OwnJobs.{DoesBoth, Learns, MayDoOwn};
-ghost use Rattle.urb_worker.specs.ServedStores.{IsLeftOf, Turns};
+ghost use Rattle.urb_worker.specs.Acts.{MaySend, Sends, reports_of};
+ghost use Rattle.urb_worker.specs.Changes.{change_of};
+ghost use Rattle.urb_worker.specs.ServedStores.{HasServed, Works};
+ghost use Rattle.urb_worker.specs.internal.ServedStores.{MayWork};
 
+use crate::outlets::{GroupOutlets, WorkerOutlets};
 use crate::own_jobs::OwnJobs;
 use crate::polling::Polling;
 use crate::tickets::{Closed, next_ticket};
@@ -18,7 +22,7 @@ use std::alloc::Global;
 use std::sync::Wait;
 use std::time::Clock;
 use urb_group::{Answer, Outbox, Reply};
-use urb_names::{NoMemory, NodeId, encode_into};
+use urb_names::{NoMemory, NodeId, Packet, encode_into};
 use urb_show::HouseName;
 use urb_stable::Stable;
 
@@ -30,22 +34,67 @@ pub struct Ticket<K: HouseName> {
     pub answer: Option<Sender<Finished<K>>>,
 }
 
-// Sends each packet to its node. The buffer takes the bytes of one packet after the other. If
-// memory for its bytes is refused, the packet is lost.
-fn send_packets<N: Link>(link: &N, packets: &Outbox, buffer: &mut Vec<u8>) {
+// Sends a packet to its node. If memory for its bytes is refused, the packet is lost. The buffer
+// takes the bytes.
+fn send_packet<N: Link, H: Reporter>(
+    outlets: &mut WorkerOutlets<'_, N, H>,
+    packet: &Packet,
+    buffer: &mut Vec<u8>,
+)
+    ensures { MaySend outlets.old packet.now outlets.new }
+{
+    match encode_into(packet, buffer) {
+        Ok(()) => outlets.send(packet.target(), buffer.as_slice()),
+        Err(refused) => outlets.lose(packet.target(), refused),
+    }
+}
+
+// Sends each packet to its node, in their order.
+#[tactic(auto, using(crate::proofs::SentPackets::sends_none, crate::proofs::SentPackets::sends_next, crate::proofs::SentPackets::sends_past, crate::proofs::SentPackets::sends_all))]
+fn send_packets<N: Link, H: Reporter>(
+    outlets: &mut WorkerOutlets<'_, N, H>,
+    packets: &Outbox,
+    buffer: &mut Vec<u8>,
+)
+    ensures { Sends outlets.old packets.now outlets.new }
+{
     for index in 0..packets.len() {
-        if let Some(packet) = packets.get(index)
-            && encode_into(packet, buffer).is_ok()
-        {
-            link.send(packet.target(), buffer.as_slice());
+        if let Some(packet) = packets.get(index) {
+            send_packet(outlets, packet, buffer);
         }
     }
 }
 
+// Sends the packets of a reply.
+#[tactic(auto, using(crate::proofs::SentPackets::sends_nothing))]
+fn send_reply<N: Link, H: Reporter>(
+    outlets: &mut WorkerOutlets<'_, N, H>,
+    reply: &Reply,
+    buffer: &mut Vec<u8>,
+)
+    ensures { Sends outlets.old (packets_in (reply_of reply.now)) outlets.new }
+{
+    if let Some(packets) = packets_in(reply) {
+        send_packets(outlets, packets, buffer);
+    }
+}
+
+// Reports how a turn changed whether a node is up, if it did.
+fn report_change<K: HouseName, N: Link, H: Reporter>(
+    outlets: &mut WorkerOutlets<'_, N, H>,
+    finished: &Finished<K>,
+)
+    ensures { outlets.new ≡ outlets.old ++ reports_of (change_of finished.now) }
+{
+    if let Some(change) = change_of(finished) {
+        outlets.report(change);
+    }
+}
+
 // Answers a ticket. If nobody waits for the answer, the link gets the buffer of the datagram back.
-fn give_answer<K: HouseName, N: Link, R: Wait>(
+fn give_answer<K: HouseName, N: Link, H: Reporter, R: Wait>(
     rt: &R,
-    link: &N,
+    outlets: &GroupOutlets<'_, N, H>,
     node: NodeId,
     answer: Option<Sender<Finished<K>>>,
     finished: Finished<K>,
@@ -53,7 +102,7 @@ fn give_answer<K: HouseName, N: Link, R: Wait>(
     if let Some(answer) = answer {
         let _ = answer.send(rt, finished);
     } else if let Some(buffer) = finished.into_datagram() {
-        link.take_back(node, buffer);
+        outlets.take_back(node, buffer);
     }
 }
 
@@ -83,9 +132,8 @@ pub struct WorkerSetting<'a, K: HouseName, L: HubName, N: Link, G: Gate, H: Repo
     pub(crate) rt: &'a R,
     pub(crate) alloc: Global,
     pub(crate) hub: &'a Hub<K, L>,
-    pub(crate) link: &'a N,
+    pub(crate) outlets: GroupOutlets<'a, N, H>,
     pub(crate) gate: &'a G,
-    pub(crate) reporter: &'a H,
     pub(crate) polling: Polling,
     /// Whether a worker feeds its node, and lets it tick early.
     pub(crate) mends: bool,
@@ -114,9 +162,8 @@ impl<'a, K: HouseName, L: HubName, N: Link, G: Gate, H: Reporter, R: Wait> Worke
             rt,
             alloc,
             hub,
-            link,
+            outlets: GroupOutlets::new(link, reporter),
             gate,
-            reporter,
             polling: Polling::none(),
             mends: false,
         }
@@ -132,6 +179,13 @@ impl<'a, K: HouseName, L: HubName, N: Link, G: Gate, H: Reporter, R: Wait> Worke
             mends: true,
             ..self
         }
+    }
+
+    /// Outlets for one of these workers. Nothing went through them yet.
+    pub fn outlets_for_worker(&self) -> WorkerOutlets<'a, N, H>
+        ensures { result ≡ [] }
+    {
+        self.outlets.for_worker()
     }
 }
 
@@ -169,13 +223,14 @@ pub fn serve<
     let mut store = store;
     let reporter = Silent;
     let setting = WorkerSetting::new(rt, alloc, hub, link, gate, &reporter);
-    let (tally, _) = serve_from(&setting, node, &mut store, &jobs, tally);
+    let mut outlets = setting.outlets_for_worker();
+    let (tally, _) = serve_from(&setting, node, &mut store, &mut outlets, &jobs, tally);
     tally
 }
 
 // Does the job of a ticket, or one of the worker's own: sends the packets, answers, and rings the
 // node's bell if it has published entries. Reports a node that went down or came back.
-#[tactic(auto, using(crate::proofs::TurnSteps::does_turn, crate::proofs::NodeFeeds::learns))]
+#[tactic(auto, using(crate::proofs::ServedStores::works, crate::proofs::NodeFeeds::learns))]
 fn do_ticket<
     K: HouseName,
     L: HubName,
@@ -188,12 +243,14 @@ fn do_ticket<
     setting: &WorkerSetting<'_, K, L, N, G, H, R>,
     node: NodeId,
     store: &mut S,
+    outlets: &mut WorkerOutlets<'_, N, H>,
     state: &mut LoopState,
     is_own: bool,
     ticket: Ticket<K>,
     tally: Tally<L>,
 ) -> Tally<L>
-    ensures store { Turns S.Stable store.old store.new }
+    ensures work { Works S.Stable K.origin node ticket.job store.old store.new
+        outlets.old outlets.new }
     ensures own { Learns setting.now.mends is_own node ticket.job state.old.own state.new.own }
 {
     let Ticket { job, answer } = ticket;
@@ -201,27 +258,23 @@ fn do_ticket<
     let (finished, tally) = setting
         .hub
         .work(rt, alloc, node, job, store, setting.gate, tally);
-    if let Some(change) = change_of(&finished) {
-        setting.reporter.report(change);
-    }
+    report_change(outlets, &finished);
     if is_record_stored(finished.reply()) {
         state.polls = setting.polling.polls();
     }
-    if let Some(packets) = packets_in(finished.reply()) {
-        send_packets(setting.link, packets, &mut state.buffer);
-    }
+    send_reply(outlets, finished.reply(), &mut state.buffer);
     state.own.learn(setting, node, is_own, &finished);
     let has_published = matches!(finished.settling(), Settling::Told(_));
-    give_answer(rt, setting.link, node, answer, finished);
+    give_answer(rt, &setting.outlets, node, answer, finished);
     if has_published {
-        setting.link.ring(node);
+        setting.outlets.ring(node);
     }
     tally
 }
 
 // Does the worker's next job of its own, if there is one. `has_waited` says whether the worker has
 // waited for a ticket and none came. If memory was refused for the job, that is returned.
-#[tactic(auto, using(crate::proofs::NodeFeeds::does_own, crate::proofs::NodeFeeds::does_none))]
+#[tactic(auto, using(crate::proofs::NodeFeeds::does_own, crate::proofs::NodeFeeds::does_none, crate::proofs::ServedStores::works_some, crate::proofs::ServedStores::works_none))]
 fn do_own_job<
     K: HouseName,
     L: HubName,
@@ -234,18 +287,19 @@ fn do_own_job<
     setting: &WorkerSetting<'_, K, L, N, G, H, R>,
     node: NodeId,
     store: &mut S,
+    outlets: &mut WorkerOutlets<'_, N, H>,
     state: &mut LoopState,
     has_waited: bool,
     tally: Tally<L>,
 ) -> (Tally<L>, Option<NoMemory>)
-    ensures store { Turns S.Stable store.old store.new }
+    ensures work { MayWork S.Stable K.origin node store.old store.new outlets.old outlets.new }
     ensures own { MayDoOwn setting.now.mends node has_waited state.old.own state.new.own
         result.1 }
 {
     match state.own.next(setting, node, has_waited) {
         Ok(Some(job)) => {
             let ticket = Ticket { job, answer: None };
-            let tally = do_ticket(setting, node, store, state, true, ticket, tally);
+            let tally = do_ticket(setting, node, store, outlets, state, true, ticket, tally);
             (tally, None)
         }
         Ok(None) => (tally, None),
@@ -256,7 +310,7 @@ fn do_own_job<
 // One round of a worker: it does the ticket that came, if one came, and then its next job of its
 // own. So a client's request never waits for more than one packet of a feed. If memory was refused
 // for that job, its feed has ended, and the refusal is returned.
-#[tactic(auto, using(crate::proofs::ServedStores::first_turn, crate::proofs::ServedStores::two_turns, crate::proofs::NodeFeeds::does_both))]
+#[tactic(auto, using(crate::proofs::ServedStores::one_job, crate::proofs::ServedStores::two_jobs, crate::proofs::NodeFeeds::does_both))]
 fn do_round<
     K: HouseName,
     L: HubName,
@@ -269,11 +323,13 @@ fn do_round<
     setting: &WorkerSetting<'_, K, L, N, G, H, R>,
     node: NodeId,
     store: &mut S,
+    outlets: &mut WorkerOutlets<'_, N, H>,
     state: &mut LoopState,
     came: Option<Ticket<K>>,
     tally: Tally<L>,
 ) -> (Tally<L>, Option<NoMemory>)
-    ensures store { IsLeftOf S.Stable store.old store.new }
+    ensures served { HasServed S.Stable K.origin node store.old store.new
+        outlets.old outlets.new }
     ensures order { MatchOption came
         (MayDoOwn setting.now.mends node true state.old.own state.new.own result.1)
         (λ ticket. DoesBoth setting.now.mends node ticket.job state.old.own state.new.own
@@ -281,10 +337,10 @@ fn do_round<
 {
     match came {
         Some(ticket) => {
-            let tally = do_ticket(setting, node, store, state, false, ticket, tally);
-            do_own_job(setting, node, store, state, false, tally)
+            let tally = do_ticket(setting, node, store, outlets, state, false, ticket, tally);
+            do_own_job(setting, node, store, outlets, state, false, tally)
         }
-        None => do_own_job(setting, node, store, state, true, tally),
+        None => do_own_job(setting, node, store, outlets, state, true, tally),
     }
 }
 
@@ -297,7 +353,7 @@ fn do_round<
 /// if one waits. If memory is refused for a packet, the feed ends, which is reported: the timer's
 /// ticks bring what is still lacking. And a tick that sent something is followed by early ones
 /// (`EARLY_TICKS`), each once no ticket has come for a pause.
-#[tactic(auto, using(crate::proofs::ServedStores::not_yet, crate::proofs::ServedStores::left_again))]
+#[tactic(auto, using(crate::proofs::ServedStores::not_yet, crate::proofs::ServedStores::served_on))]
 pub fn serve_from<
     'q,
     K: HouseName,
@@ -311,10 +367,12 @@ pub fn serve_from<
     setting: &WorkerSetting<'_, K, L, N, G, H, R>,
     node: NodeId,
     store: &mut S,
+    outlets: &mut WorkerOutlets<'_, N, H>,
     jobs: &'q Receiver<Ticket<K>>,
     tally: Tally<L>,
 ) -> (Tally<L>, Closed<'q>)
-    ensures { IsLeftOf S.Stable store.old store.new }
+    // It did some jobs, one after the other, and let out what their results say.
+    ensures { HasServed S.Stable K.origin node store.old store.new outlets.old outlets.new }
 {
     let rt = setting.rt;
     let mut tally = tally;
@@ -329,10 +387,10 @@ pub fn serve_from<
             Ok(came) => came,
             Err(closed) => return (tally, closed),
         };
-        let (counted, refused) = do_round(setting, node, store, &mut state, came, tally);
+        let (counted, refused) = do_round(setting, node, store, outlets, &mut state, came, tally);
         tally = counted;
         if refused.is_some() {
-            setting.reporter.report_cut_feed(node);
+            setting.outlets.report_cut_feed(node);
         }
     }
     unreachable!()

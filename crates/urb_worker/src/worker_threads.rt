@@ -7,6 +7,7 @@ ghost use Rattle.urb_worker.specs.internal.ServedStores.{AllThere, each, in_eith
 use crate::{Gate, HubName, Link, Reporter, Tally, Ticket, WorkerSetting, serve_from};
 use crossbeam_channel::{Receiver, Sender};
 use std::alloc::Global;
+use std::marker::PhantomData;
 use std::snapshot::Snapshot;
 use std::sync::Wait;
 use std::thread::{Promise, PromisedHandle, Scope, Threads};
@@ -24,32 +25,41 @@ pub(crate) struct WorkerInput<K: HouseName, L: HubName, S: Stable<Alloc = Global
     pub(crate) tally: Tally<L>,
 }
 
-/// What a worker without a thread has left: its store after its turns, and its tally.
+/// What a worker without a thread has left: its store after its jobs, and its tally.
 #[derive(Drop)]
-pub(crate) struct WorkerOutput<L: HubName, S: Stable<Alloc = Global>> {
+pub(crate) struct WorkerOutput<K: HouseName, L: HubName, S: Stable<Alloc = Global>> {
     store: S,
     tally: Tally<L>,
+    node: NodeId,
     came: Snapshot<S>,
-    ghost served: { IsLeftOf S.Stable came.value store },
+    of: PhantomData<K>,
+    ghost served: { IsLeftOf S.Stable K.origin node came.value store },
 }
 
-/// The promise that the store that is left is the one of the input.
+/// The promise that the store that is left is the one of the input, after jobs of this node.
 #[derive(Drop)]
-pub(crate) struct KeepsStore<S>(Snapshot<S>);
+pub(crate) struct KeepsStore<K, S> {
+    node: NodeId,
+    came: Snapshot<S>,
+    of: PhantomData<K>,
+}
 
-impl<L: HubName, S: Stable<Alloc = Global>> Promise<(S, Tally<L>)> for KeepsStore<S> {
+impl<K: HouseName, L: HubName, S: Stable<Alloc = Global>> Promise<(S, Tally<L>)>
+    for KeepsStore<K, S> {
     ghost use Rattle.urb_worker.specs.ServedStores.{IsLeftOf};
 
-    ghost kept_by = { λ promise left. IsLeftOf S.Stable promise.0.value left.0 };
+    ghost kept_by = { λ promise left.
+        IsLeftOf S.Stable K.origin promise.node promise.came.value left.0 };
 }
 
 /// A worker: its thread, or what it has left if no thread could be made.
-pub(crate) type Worker<L, S> = Result<
-    PromisedHandle<(S, Tally<L>), KeepsStore<S>>,
-    WorkerOutput<L, S>,
+pub(crate) type Worker<K, L, S> = Result<
+    PromisedHandle<(S, Tally<L>), KeepsStore<K, S>>,
+    WorkerOutput<K, L, S>,
 >;
 
 // Does a node's jobs until its channel closes, and leaves its store and its tally.
+#[tactic(auto, using(crate::proofs::ServedStores::leaves))]
 fn run_worker<K: HouseName, L: HubName, S: Stable<Alloc = Global> + Drop, N, G, H, R>(
     setting: &WorkerSetting<'_, K, L, N, G, H, R>,
     input: WorkerInput<K, L, S>,
@@ -59,7 +69,7 @@ where
     G: Gate,
     H: Reporter,
     R: Wait + Clock,
-    ensures { IsLeftOf S.Stable input.store result.0 }
+    ensures { IsLeftOf S.Stable K.origin input.node input.store result.0 }
 {
     let WorkerInput {
         node,
@@ -67,7 +77,8 @@ where
         jobs,
         tally,
     } = input;
-    let (tally, _) = serve_from(setting, node, &mut store, &jobs, tally);
+    let mut outlets = setting.outlets_for_worker();
+    let (tally, _) = serve_from(setting, node, &mut store, &mut outlets, &jobs, tally);
     (store, tally)
 }
 
@@ -87,15 +98,18 @@ pub(crate) fn start_workers<
     scope: &Scope<'s, E>,
     setting: &'s WorkerSetting<'s, K, L, N, G, H, R>,
     inputs: Vec<WorkerInput<K, L, S>>,
-    workers: Vec<Worker<L, S>>,
+    workers: Vec<Worker<K, L, S>>,
     queues: Vec<Sender<Ticket<K>>>,
-) -> (Vec<Worker<L, S>>, Option<Vec<Sender<Ticket<K>>>>)
+) -> (Vec<Worker<K, L, S>>, Option<Vec<Sender<Ticket<K>>>>)
     requires { (vec_len workers ≡ 0) × (vec_len inputs ≤ vec_capacity workers) }
     ensures workers { vec_len result.0 ≡ vec_len inputs }
-    // The workers have the stores of the inputs, in reverse order.
+    // The workers have the stores of the inputs, and their nodes, in reverse order.
     ensures order { each result.0.items (λ worker.
-        in_either worker (λ thread. thread.promise.0.value) (λ left. left.came.value))
+        in_either worker (λ thread. thread.promise.came.value) (λ left. left.came.value))
         ≡ reverse (each inputs.items (λ input. input.store)) }
+    ensures nodes { each result.0.items (λ worker.
+        in_either worker (λ thread. thread.promise.node) (λ left. left.node))
+        ≡ reverse (each inputs.items (λ input. input.node)) }
     ensures queues { IfSome result.1 (λ kept. vec_len kept ≡ vec_len queues) }
     // The queues are kept only if each worker has its thread. A worker without one would have to
     // wait for their tickets.
@@ -105,17 +119,29 @@ pub(crate) fn start_workers<
     let mut workers = workers;
     let mut inputs = inputs;
     while let Some(input) = inputs.pop() {
+        let node = input.node;
         let (came, kept) = (Snapshot::of(&input.store), Snapshot::of(&input.store));
         let work = move || -> (S, Tally<L>)
-            ensures { IsLeftOf S.Stable input.store result.0 }
+            ensures { IsLeftOf S.Stable K.origin input.node input.store result.0 }
         { run_worker(setting, input) };
-        match scope.spawn_with(KeepsStore(kept), work) {
+        let promise = KeepsStore {
+            node,
+            came: kept,
+            of: PhantomData::<K>,
+        };
+        match scope.spawn_with(promise, work) {
             Ok(thread) => workers.push_reserved(Ok(thread)),
             Err(refused) => {
                 // Drop the queues first: this worker would wait for their tickets forever.
                 queues = None;
                 let (store, tally) = (refused.value)();
-                workers.push_reserved(Err(WorkerOutput { store, tally, came }));
+                workers.push_reserved(Err(WorkerOutput {
+                    store,
+                    tally,
+                    node,
+                    came,
+                    of: PhantomData,
+                }));
             }
         }
     }
@@ -123,12 +149,14 @@ pub(crate) fn start_workers<
 }
 
 // Waits for a worker, and returns what it left.
-fn join_worker<L: HubName, S: Stable<Alloc = Global> + Drop, R: Threads>(
+fn join_worker<K: HouseName, L: HubName, S: Stable<Alloc = Global> + Drop, R: Threads>(
     rt: &R,
-    worker: Worker<L, S>,
+    worker: Worker<K, L, S>,
 ) -> (S, Tally<L>)
-    ensures { IsLeftOf S.Stable
-        (in_either worker (λ thread. thread.promise.0.value) (λ left. left.came.value)) result.0 }
+    ensures { IsLeftOf S.Stable K.origin
+        (in_either worker (λ thread. thread.promise.node) (λ left. left.node))
+        (in_either worker (λ thread. thread.promise.came.value) (λ left. left.came.value))
+        result.0 }
 {
     match worker {
         Ok(thread) => thread.join(rt),
@@ -136,7 +164,9 @@ fn join_worker<L: HubName, S: Stable<Alloc = Global> + Drop, R: Threads>(
             let WorkerOutput {
                 store,
                 tally,
+                node: _,
                 came: _,
+                of: _,
             } = left;
             (store, tally)
         }
@@ -144,9 +174,9 @@ fn join_worker<L: HubName, S: Stable<Alloc = Global> + Drop, R: Threads>(
 }
 
 /// Waits for the workers, and returns their stores and tallies in their order.
-pub(crate) fn join_workers<L: HubName, S: Stable<Alloc = Global> + Drop, R: Threads>(
+pub(crate) fn join_workers<K: HouseName, L: HubName, S: Stable<Alloc = Global> + Drop, R: Threads>(
     rt: &R,
-    workers: Vec<Worker<L, S>>,
+    workers: Vec<Worker<K, L, S>>,
     stores: Vec<S>,
     tallies: Vec<Tally<L>>,
 ) -> (Vec<S>, Vec<Tally<L>>)
@@ -154,10 +184,12 @@ pub(crate) fn join_workers<L: HubName, S: Stable<Alloc = Global> + Drop, R: Thre
     requires tallies { (vec_len tallies ≡ 0) × (vec_len workers ≤ vec_capacity tallies) }
     ensures stores { vec_len result.0 ≡ vec_len workers }
     ensures tallies { vec_len result.1 ≡ vec_len workers }
-    // Each store is that of its worker, after its turns.
-    ensures order { AreServed S.Stable
+    // Each store is that of its worker, after jobs of its node.
+    ensures order { AreServed S.Stable K.origin
         (each workers.items (λ worker.
-        in_either worker (λ thread. thread.promise.0.value) (λ left. left.came.value)))
+        in_either worker (λ thread. thread.promise.node) (λ left. left.node)))
+        (each workers.items (λ worker.
+        in_either worker (λ thread. thread.promise.came.value) (λ left. left.came.value)))
         result.0.items }
 {
     let mut stores = stores;

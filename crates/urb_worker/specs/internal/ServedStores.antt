@@ -1,5 +1,10 @@
--- Words about lists, for the order of the stores.
-use Rattle.std.specs.Prelude.{List, [], ◌∷◌, map, ℕ, zero, suc, ◌+◌, Result, Ok, Err}
+-- Words about lists, for the order of the stores; and a job that a worker may do.
+use Rattle.std.specs.Prelude.{List, [], ℕ, ◌∷◌, ◌≡◌, ◌⊎◌, map, Result, Ok, Err}
+use Rattle.urb_stable.specs.declared.stable.Stable.{Ghosts}
+use Rattle.urb_group.specs.GroupViews.{GroupView}
+use Rattle.urb_worker.specs.Acts.{Act}
+use Rattle.urb_worker.specs.ServedStores.{Works}
+use Rattle.urb_worker.specs.declared.job.Job.{Job}
 
 -- the value of f for each element of a list
 abbrev pub each : {X Y : Type 0} → List X → (X → Y) → List Y
@@ -16,7 +21,8 @@ AllThere [] = Unit {0}
 AllThere (Ok there ∷ more) = AllThere more
 AllThere (Err left ∷ more) = ⊥
 
--- consecutive numbers, from the first one on
-abbrev pub numbers_from : ℕ → ℕ → List ℕ
-numbers_from first zero = []
-numbers_from first (suc more) = first ∷ numbers_from (first + 1) more
+-- the worker of node n does some job, or does nothing
+abbrev pub MayWork : {S A : Type 0} → Ghosts S A → GroupView → ℕ → S → S → List Act → List Act
+    → Type 0
+MayWork g opened n before after old new =
+    ((after ≡ before) × (new ≡ old)) ⊎ ((job : Job) × Works g opened n job before after old new)

@@ -46,7 +46,8 @@ impl<'a, 'r, K: HouseName, L: HubName, R: Wait + Clock> Nodes<'a, 'r, K, L, R> {
         let setting = WorkerSetting::new(
             self.rt, self.alloc, self.hub, self.link, &gate, &reporter,
         );
-        let (tally, _) = serve_from(&setting, node, store, &jobs, tally);
+        let mut outlets = setting.outlets_for_worker();
+        let (tally, _) = serve_from(&setting, node, store, &mut outlets, &jobs, tally);
         tally
     }
 

@@ -116,7 +116,8 @@ fn serve_node<K: HouseName, L: HubName, R: Wait + Clock>(
     };
     let mut store = store;
     let setting = WorkerSetting::new(rt, alloc, hub, link, &OpenGate, &Silent).mending();
-    let (tally, _) = serve_from(&setting, node, &mut store, jobs, tally);
+    let mut outlets = setting.outlets_for_worker();
+    let (tally, _) = serve_from(&setting, node, &mut store, &mut outlets, jobs, tally);
     tally
 }
 

@@ -16,7 +16,7 @@ returns-in-Ok-open_network-clause-order g c =
     subst (λ result. OpensTogether g.S.Stable c.config.result c.args.stores.items result asked)
     c.in-Ok.is c.open_group-stores.ensures.opens in
     come_back g.S.Stable c.config.result c.args.stores.items
-    (Ok c.in-Ok.group) asked c.run_group_at-stores.result.0.items opens
+    (Ok c.in-Ok.group) asked c.run_group_at-stores.result.0.items c.in-Ok.group opens
     c.run_group_at-stores.ensures.order
 
 pub returns-in-Err-open_network-clause-order : goal.returns-in-Err-open_network-clause-order
@@ -54,7 +54,7 @@ returns-in-Err-open_network-clause-ends g c =
     let same : c.config.result ≡ limits_of c.args.serving = search rules in
     ends-opened g.S.Stable c.config.result (limits_of c.args.serving) c.args.stores.items
     call.result.1 c.in-Ok.group call.result.0.items call.result.0.items c.args.console.now.is_told
-    (Err (Network fault)) same c.in-Ok.is call.ensures.opens (unserved g.S.Stable call.result.0.items)
+    (Err (Network fault)) same c.in-Ok.is call.ensures.opens (unserved g.S.Stable c.in-Ok.group call.result.0.items)
     (ends-without-network fault c.args.console.now.is_told)
 
 pub returns-in-Err-clause-ends : goal.returns-in-Err-clause-ends
@@ -91,7 +91,7 @@ returns-in-Err-open_network-clause-goes_on g c =
     served-after-stop g.S.Stable c.config.result (limits_of c.args.serving) c.args.stores.items
     call.result.1 c.in-Ok.group call.result.0.items call.result.0.items c.args.console.now.is_told
     (Err (Network fault)) same c.in-Ok.is call.ensures.opens call.ensures.goes_on
-    (unserved g.S.Stable call.result.0.items)
+    (unserved g.S.Stable c.in-Ok.group call.result.0.items)
     (ends-without-network fault c.args.console.now.is_told)
 
 pub returns-in-Err-clause-goes_on : goal.returns-in-Err-clause-goes_on

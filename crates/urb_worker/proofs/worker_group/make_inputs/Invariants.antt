@@ -1,5 +1,6 @@
 use Rattle.std.proofs.Common.{◌≡◌, ◌+◌, ◌++◌, ◌≤◌, reverse, vec_len, vec_capacity}
-use Rattle.urb_worker.specs.internal.ServedStores.{each, numbers_from}
+use Rattle.urb_worker.specs.ServedStores.{numbers_from}
+use Rattle.urb_worker.specs.internal.ServedStores.{each}
 use Rattle.urb_worker.proofs.worker_group.make_inputs.Given as goal
 
 abbrev pub invariant-loop-store : goal.invariant-loop-store

@@ -14,6 +14,6 @@ loop-worker-preserved g c = record {
   places = search rules;
   counts = search rules;
   order =
-      one_left g.S.Stable _ _ _ _ _ _ c.loop-worker.invariant.order c.join_worker-store.ensures
+      one_left g.S.Stable g.K.HouseName.origin _ _ _ _ _ _ _ c.loop-worker.invariant.order c.join_worker-store.ensures
       c.push_reserved.ensures.items;
 }

@@ -9,7 +9,10 @@ invariant-loop-worker g l = record {
   tallies : vec_len l.tallies ≡ length l.yielded;
   places : vec_len l.fn.workers ≤ vec_capacity l.stores;
   counts : vec_len l.fn.workers ≤ vec_capacity l.tallies;
-  order : AreServed g.S.Stable (each l.yielded
-      (λ worker. in_either worker (λ thread. thread.promise.0.value) (λ left. left.came.value)))
+  order : AreServed g.S.Stable g.K.HouseName.origin
+      (each l.yielded
+      (λ worker. in_either worker (λ thread. thread.promise.node) (λ left. left.node)))
+      (each l.yielded
+      (λ worker. in_either worker (λ thread. thread.promise.came.value) (λ left. left.came.value)))
       l.stores.items;
 }

@@ -11,6 +11,9 @@ loop-input-preserved-in-Ok-1 g c = record {
   placed =
       puts_down _ _ _ _ _ _ _ _ _ c.push_reserved.ensures.items c.in-Some.ensures.items
       (search rules) c.loop-input.invariant.placed;
+  numbered =
+      puts_down _ _ _ _ _ _ _ _ _ c.push_reserved.ensures.items c.in-Some.ensures.items
+      (search rules) c.loop-input.invariant.numbered;
 }
 
 pub loop-input-preserved : goal.loop-input-preserved
@@ -22,4 +25,7 @@ loop-input-preserved g c = record {
   placed =
       puts_down _ _ _ _ _ _ _ _ _ c.push_reserved-in-Err.ensures.items c.in-Some.ensures.items
       (search rules) c.loop-input.invariant.placed;
+  numbered =
+      puts_down _ _ _ _ _ _ _ _ _ c.push_reserved-in-Err.ensures.items c.in-Some.ensures.items
+      (search rules) c.loop-input.invariant.numbered;
 }
