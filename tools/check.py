@@ -20,6 +20,7 @@ from tools.checks import (
     memory,
     monitoring,
     names,
+    outlets,
     prose,
     sources,
 )
@@ -77,6 +78,7 @@ CHECKS: tuple[Callable[[Tree], Iterable[Misfit]], ...] = (
     limits.stated_limits,
     memory.refusals_from_nothing,
     files.changes_of_files,
+    outlets.sends_and_reports,
     monitoring.alerts,
     monitoring.figures,
     monitoring.picture,

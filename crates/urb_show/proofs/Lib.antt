@@ -7,7 +7,8 @@
 -- in PublishingSteps and HistoryAdditions: no step takes back what a reader has seen. What readers
 -- can conclude stands last (AgreeingLists, AgreeingPages).
 -- The events of a house stand apart: prefixes of its past (PastPrefixes), the past after one more
--- event (PastEvents), and the place and reply of an event in each longer history (ToldReplies).
+-- event (PastEvents), and the place and reply of an event in each longer history (ToldReplies). What
+-- rounds in a past deliver is in HouseRounds.
 -- The main lemmas are `lists_grow` (GroupLists), `goes_on_agrees` (AgreeingLists) and
 -- `readers_never_contradict` (AgreeingPages). They rest on urb_group's lemmas about what nodes have
 -- delivered, and on the specifications of the crates left_right and logbook.
@@ -21,6 +22,7 @@ pub mod GroupLists
 pub mod PastPrefixes
 pub mod PastEvents
 pub mod ToldReplies
+pub mod HouseRounds
 pub mod GroupReports
 pub mod PreparedEntries
 pub mod SettledNodes

@@ -13,7 +13,8 @@ use Rattle.urb_names.specs.declared.refusal.Refusal.{Refusal}
 use Rattle.urb_node.specs.Replies.{Done, Reply, Sent, Stored, Up, WentDown}
 use Rattle.urb_stable.specs.PlacedRecords.{Placed}
 use Rattle.urb_show.proofs.Prefixes.{prefix_get}
-use Rattle.urb_show.specs.Pasts.{IsLedTo, IsToldAt, after, reply_to}
+use Rattle.urb_group.specs.RecoveryPlans.{after}
+use Rattle.urb_show.specs.Pasts.{IsLedTo, IsToldAt, reply_to}
 use mathlib.Core.List.{IsPrefix}
 
 last_get : (past : List Event) (event : Event)

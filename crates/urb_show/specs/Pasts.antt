@@ -1,17 +1,14 @@
 -- The past of a house: its events, and the group that they make.
 use Rattle.std.specs.Prelude.{IfOk, List, Result, Some, length, slice_get, take, ℕ, ◌≡◌}
 use Rattle.urb_group.specs.GroupViews.{GroupView, Shows}
-use Rattle.urb_group.specs.Step.{Event, IsReached, run, step}
+use Rattle.urb_group.specs.RecoveryPlans.{after}
+use Rattle.urb_group.specs.Step.{Event, IsReached, step}
 use Rattle.urb_group.specs.World.{World}
 use Rattle.urb_group.specs.declared.taken.Taken.TheVariants as taken
 use Rattle.urb_group.specs.declared.taken.Taken.{Taken}
 use Rattle.urb_node.specs.Replies.{Drafted, Reply, Same}
 use Rattle.urb_stable.specs.Entries.{name_of}
 use Rattle.urb_show.specs.Houses.{HouseView}
-
--- the world that these events make of a world
-abbrev pub after : World → List Event → World
-after w events = (run w events).1
 
 -- From each world that the group showed at the opening, the past leads to a world that the group
 -- shows now.

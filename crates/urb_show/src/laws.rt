@@ -1,9 +1,15 @@
-//! The laws about what readers see and callers are told. Each law is the contract of a function that does nothing.
+//! The laws about what readers see, what callers are told, and what a house delivers. Each law is
+//! the contract of a function that does nothing.
 ghost use Rattle.std.specs.Prelude.{List, [], length, ℕ, ◌++◌, ◌∷◌, ◌≡◌};
 ghost use Rattle.std.specs.declared.alloc.Global.{Global};
 ghost use Rattle.urb_group.specs.GroupCalls.{Steps};
-ghost use Rattle.urb_group.specs.GroupViews.{GroupView};
-ghost use Rattle.urb_group.specs.Step.{Event};
+ghost use Rattle.urb_group.specs.GroupViews.{GroupView, Shows};
+ghost use Rattle.urb_group.specs.RecoveredWorlds.{IsNotStranded};
+ghost use Rattle.urb_group.specs.RecoveryPlans.{after};
+ghost use Rattle.urb_group.specs.Rounds.{AllUp, AnswersArrive, IsBusyRound, IsRound, IsUndisturbed};
+ghost use Rattle.urb_group.specs.Rounds.{NoneDue, ReadyHaveDelivered, TicksAreSilent, acts_of};
+ghost use Rattle.urb_group.specs.Step.{Event, IsReached};
+ghost use Rattle.urb_group.specs.World.{World};
 ghost use Rattle.urb_node.specs.Replies.{Reply};
 ghost use Rattle.urb_show.specs.Readers.{AreOfOneHistory, GoesOn, ReaderView, Learns, Takes};
 ghost use Rattle.urb_show.specs.Lists.{AgreeAcross, Begins, Lists, list_at};
@@ -57,3 +63,34 @@ pub fn replies_stand()
         IsToldAt opened moment place event reply → IsPrefix moment later →
         IsToldAt opened later place event reply }
 {}
+
+/// A house delivers. If the last events of its past are two busy rounds, each node that is ready has
+/// delivered all that the nodes had stored before these rounds. The rounds are those of
+/// `urb_group::fairness`: all nodes were up, and the group wasn't stranded. `House::recall` says
+/// that the past of a house has led to its group.
+pub fn two_busy_rounds_of_a_house_deliver()
+    ensures { (opened group : GroupView) (w : World) (before first second : List Event) →
+        Shows opened w → IsReached w → IsLedTo opened (before ++ (first ++ second)) group →
+        IsNotStranded (after w before) → AllUp (after w before) →
+        IsBusyRound (after w before) first → IsBusyRound (after (after w before) first) second →
+        (end : World) × Shows group end × ReadyHaveDelivered (after w before) end }
+{
+    urb_group::fairness::two_busy_rounds_deliver();
+}
+
+/// A house falls silent. If its past had three rounds, and the third one's answers arrived too, no
+/// tick sends anything, as long as no new message is drafted, no node crashes and no store fails.
+pub fn three_rounds_of_a_house_end_its_ticks()
+    ensures { (opened group : GroupView) (w : World) (before first second third later : List Event)
+        → Shows opened w → IsReached w
+        → IsLedTo opened (before ++ (first ++ (second ++ (third ++ later)))) group
+        → IsNotStranded (after w before) → AllUp (after w before)
+        → IsRound (after w before) first → IsRound (after (after w before) first) second
+        → IsRound (after (after (after w before) first) second) third
+        → AnswersArrive (acts_of (after (after (after w before) first) second) third)
+        → IsUndisturbed (acts_of (after (after (after (after w before) first) second) third) later)
+        → (end : World) × Shows group end × NoneDue end
+        × TicksAreSilent (acts_of (after (after (after (after w before) first) second) third) later) }
+{
+    urb_group::fairness::ticks_end();
+}

@@ -1,6 +1,6 @@
 -- The number of events that a House counts in a turn, and in turns one after the other.
 use Rattle.std.proofs.Common.{◌≡◌, ◌+◌, ◌-◌, ◌^◌, ◌==◌, if◌then◌else◌, eqb-true, ◌<◌, ℕ, zero, suc}
-use Rattle.std.proofs.Common.{Bool, true, false, Ok, Err, Option, Result, ap, refl, ◌∙◌}
+use Rattle.std.proofs.Common.{Bool, true, false, Ok, Err, Option, Result, ap, refl, sym, ◌∙◌}
 use Rattle.std.proofs.Common.{arith, add-zero}
 use Rattle.std.specs.declared.alloc.Global.{Global}
 use Rattle.urb_group.specs.Step.{Event}
@@ -9,8 +9,9 @@ use Rattle.urb_show.specs.Houses.{HouseView, next_count}
 use Rattle.urb_show.specs.declared.status.Status.{Status}
 use Rattle.urb_worker.specs.Counting.{count_after, count_of}
 use Rattle.urb_worker.specs.Settlings.{NothingNew, OutOfMemory, Published, Settles, Told}
-use Rattle.urb_worker.specs.Turns.{Counts, Ends}
+use Rattle.urb_worker.specs.Turns.{Begins, Counts, Ends}
 use Rattle.urb_worker.specs.declared.job.Job.{Job}
+use Rattle.urb_worker.specs.declared.job.Job.TheVariants as job
 use Rattle.urb_worker.specs.declared.turn_stages.Stage.{Stage}
 use Rattle.urb_worker.specs.declared.turn_stages.Stage.TheVariants as stage
 
@@ -29,6 +30,29 @@ call_events : {T E : Type 0} (event : Event) (r : Result T E) (old new : HouseVi
     → Counts event r old new → new.events ≡ count_after (count_of r) old.events
 call_events event (Ok done) old new h = h.events
 call_events event (Err refused) old new h = same_events old new h
+
+-- the beginning of a turn adds its number of events to the House's count
+pub begins_count : (old : HouseView) (j : Job) (new : HouseView) (at : Stage) (events : ℕ)
+    → Begins old j new at events → new.events ≡ count_after events old.events
+begins_count old (job.Submit p client number payload) new at events (r, takes, counts, to, is) =
+    rw is (call_events _ r old new counts)
+begins_count old (job.Arrive p bytes) new at events (r, takes, counts, to, is) =
+    rw is (call_events _ r old new counts)
+begins_count old (job.Tick p) new at events (r, ticks, counts, to, is) =
+    rw is (call_events _ r old new counts)
+begins_count old (job.Crash p) new at events (r, crashes, counts, to, is) =
+    rw is (call_events _ r old new counts)
+begins_count old (job.Restart p) new at events (state, answers, same, to, is) =
+    rw is (same_events old new same)
+begins_count old (job.Status p) new at events (same, to, is) = rw is (same_events old new same)
+
+-- the same, if the House was marked before and after the call
+pub marked_begin_counts : (first old new last : HouseView) (j : Job) (at : Stage) (events : ℕ)
+    → old ≡ first → last ≡ new → Begins old j new at events
+    → last.events ≡ count_after events first.events
+marked_begin_counts first old new last j at events before behind begins =
+    same_events new last behind ∙ begins_count old j new at events begins
+    ∙ ap (λ (h : HouseView). count_after events h.events) before
 
 -- the end of a turn adds its number of events to the House's count
 pub ends_count : (old : HouseView) (job : Job) (at : Stage) (new : HouseView) (said : Reply Global)
@@ -50,6 +74,16 @@ ends_count old job (stage.Answered answer) new said status settling events
     (same, is_said, is_status, is_told, is) = rw is (same_events old new same)
 ends_count old job (stage.Drafted draft) new said status settling events h = absurd h
 ends_count old job stage.Retrieving new said status settling events h = absurd h
+
+-- the same, if the House was marked before and after the call
+pub marked_end_counts : (first old new last : HouseView) (j : Job) (at : Stage)
+    (said : Reply Global) (status : Option Status) (settling : Published) (events count : ℕ)
+    → old ≡ first → last ≡ new → Ends old j at new said status settling events → count ≡ events
+    → last.events ≡ count_after count first.events
+marked_end_counts first old new last j at said status settling events count before behind ends is =
+    same_events new last behind ∙ ends_count old j at new said status settling events ends
+    ∙ ap (λ (h : HouseView). count_after events h.events) before
+    ∙ ap (λ (k : ℕ). count_after k first.events) (sym is)
 
 -- the count after some events and then others
 pub count_sum : (k t e : ℕ) → count_after k (count_after t e) ≡ count_after (t + k) e

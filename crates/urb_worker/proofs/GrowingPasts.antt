@@ -37,16 +37,16 @@ call_grows event (Err refused) old new h = stays old new h
 -- the past only grows by a turn's first call
 pub begins_grow : (old : HouseView) (j : Job) (new : HouseView) (at : Stage) (events : ℕ)
     → Begins old j new at events → IsPrefix old.past new.past
-begins_grow old (job.Submit p client number payload) new at events (r, takes, counts, rest) =
+begins_grow old (job.Submit p client number payload) new at events (r, takes, counts, to, is) =
     call_grows _ r old new counts
-begins_grow old (job.Arrive p bytes) new at events (r, takes, counts, rest) =
+begins_grow old (job.Arrive p bytes) new at events (r, takes, counts, to, is) =
     call_grows _ r old new counts
-begins_grow old (job.Tick p) new at events (r, ticks, counts, rest) =
+begins_grow old (job.Tick p) new at events (r, ticks, counts, to, is) =
     call_grows _ r old new counts
-begins_grow old (job.Crash p) new at events (r, crashes, counts, rest) =
+begins_grow old (job.Crash p) new at events (r, crashes, counts, to, is) =
     call_grows _ r old new counts
-begins_grow old (job.Restart p) new at events (state, answers, same, rest) = stays old new same
-begins_grow old (job.Status p) new at events (same, rest) = stays old new same
+begins_grow old (job.Restart p) new at events (state, answers, same, to, is) = stays old new same
+begins_grow old (job.Status p) new at events (same, to, is) = stays old new same
 
 settled_on : {T E : Type 0} (event : Event) (r : Result T E) (old between new : HouseView)
     → Counts event r old between → new.past ≡ between.past → IsPrefix old.past new.past

@@ -41,7 +41,8 @@ use Rattle.urb_show.proofs.PastPrefixes.{prefix_same}
 use Rattle.urb_show.proofs.Prefixes.{prefix_length, prefix_trans}
 use Rattle.urb_show.proofs.ToldReplies.{reply_stands}
 use Rattle.urb_show.specs.Houses.{HouseView}
-use Rattle.urb_show.specs.Pasts.{IsLedTo, IsToldAt, after}
+use Rattle.urb_group.specs.RecoveryPlans.{after}
+use Rattle.urb_show.specs.Pasts.{IsLedTo, IsToldAt}
 use Rattle.urb_show.specs.Statuses.{TellsStatus}
 use Rattle.urb_show.specs.declared.status.Status.{Status}
 use Rattle.urb_stable.specs.Doubts.{Doubted}
@@ -495,6 +496,7 @@ came_tells : (opened : GroupView) (seen : List Event) (asked : Asked) (p : ℕ) 
     → IsJobOf p asked done → CameOf opened done said status settling (Some loans)
     → IsPrefix seen loans.first.lent
     → Tells opened seen loans.last.back p asked (told_of said status)
+unfolding begun
 came_tells opened seen (Submit c n bytes) p (job.Submit q of ranked payload) said status settling
     loans is came behind =
     let begun = came.6 in

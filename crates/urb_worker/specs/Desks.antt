@@ -22,7 +22,8 @@ use Rattle.urb_group.specs.declared.reply.Reply.TheVariants as reply
 use Rattle.urb_group.specs.declared.state.State.{State}
 use Rattle.urb_group.specs.declared.state.State.TheVariants as state
 use Rattle.urb_node.specs.Replies.{Up, WentDown}
-use Rattle.urb_show.specs.Pasts.{IsLedTo, IsToldAt, after}
+use Rattle.urb_group.specs.RecoveryPlans.{after}
+use Rattle.urb_show.specs.Pasts.{IsLedTo, IsToldAt}
 use Rattle.urb_show.specs.Readers.{ReaderView, Learns, Takes}
 use Rattle.urb_show.specs.Lists.{Lists, list_at}
 use Rattle.urb_show.specs.Statuses.{TellsStatus}

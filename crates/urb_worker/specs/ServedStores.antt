@@ -37,7 +37,7 @@ module _ {S A : Type 0} (g : Ghosts S A) (opened : GroupView) where
 
   -- the last store is the first one after some number of jobs of node n
   abbrev pub IsLeftOf : ℕ → S → S → Type 0
-  IsLeftOf n first last = ∥ (acts : List Act) × Serves g opened n first last [] acts ∥₁
+  IsLeftOf n first last = ∥ ((acts : List Act) × Serves g opened n first last [] acts) ∥₁
 
   -- each store of the last list is the store of the first list at the same place, after some number
   -- of jobs of its own node

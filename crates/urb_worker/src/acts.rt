@@ -74,14 +74,14 @@ impl NextAct for Losing {
 
 /// A report of a change.
 #[derive(Drop)]
-pub(crate) struct Reporting {
-    pub(crate) change: Change,
+pub(crate) struct Reporting<'a> {
+    pub(crate) change: &'a Change,
 }
 
-impl NextAct for Reporting {
+impl<'a> NextAct for Reporting<'a> {
     ghost use Rattle.urb_worker.specs.Acts.{Reported};
 
-    ghost act = { λ a. Reported a.change };
+    ghost act = { λ a. Reported a.change.now };
 }
 
 // A list, and the act that comes next.

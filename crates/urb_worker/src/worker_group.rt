@@ -12,7 +12,6 @@ ghost use Rattle.urb_worker.specs.internal.ServedStores.{each};
 ghost use Rattle.urb_show.specs.declared.opened_group.TheConstants.{READERS};
 
 use crate::listeners::{ListenerInput, run_listeners};
-use crate::outlets::GroupOutlets;
 use crate::polling::Polling;
 use crate::worker_threads::{Worker, WorkerInput, join_workers, start_workers};
 use crate::{
@@ -266,8 +265,9 @@ where
         rt,
         alloc: outer.alloc,
         hub,
-        outlets: GroupOutlets::new(&link, outer.reporter),
+        link: &link,
         gate: &gate,
+        reporter: outer.reporter,
         polling: Polling::for_workers(rt, group.inputs.len()),
         mends: true,
     };

@@ -10,7 +10,7 @@ ghost use Rattle.urb_worker.specs.Changes.{change_of};
 ghost use Rattle.urb_worker.specs.ServedStores.{HasServed, Works};
 ghost use Rattle.urb_worker.specs.internal.ServedStores.{MayWork};
 
-use crate::outlets::{GroupOutlets, WorkerOutlets};
+use crate::outlets::WorkerOutlets;
 use crate::own_jobs::OwnJobs;
 use crate::polling::Polling;
 use crate::tickets::{Closed, next_ticket};
@@ -50,7 +50,7 @@ fn send_packet<N: Link, H: Reporter>(
 }
 
 // Sends each packet to its node, in their order.
-#[tactic(auto, using(crate::proofs::SentPackets::sends_none, crate::proofs::SentPackets::sends_next, crate::proofs::SentPackets::sends_past, crate::proofs::SentPackets::sends_all))]
+#[tactic(auto, using(crate::proofs::SentPackets::sends_none, crate::proofs::SentPackets::sends_all))]
 fn send_packets<N: Link, H: Reporter>(
     outlets: &mut WorkerOutlets<'_, N, H>,
     packets: &Outbox,
@@ -59,8 +59,9 @@ fn send_packets<N: Link, H: Reporter>(
     ensures { Sends outlets.old packets.now outlets.new }
 {
     for index in 0..packets.len() {
-        if let Some(packet) = packets.get(index) {
-            send_packet(outlets, packet, buffer);
+        match packets.get(index) {
+            Some(packet) => send_packet(outlets, packet, buffer),
+            None => {}
         }
     }
 }
@@ -87,14 +88,14 @@ fn report_change<K: HouseName, N: Link, H: Reporter>(
     ensures { outlets.new ≡ outlets.old ++ reports_of (change_of finished.now) }
 {
     if let Some(change) = change_of(finished) {
-        outlets.report(change);
+        outlets.report(&change);
     }
 }
 
 // Answers a ticket. If nobody waits for the answer, the link gets the buffer of the datagram back.
-fn give_answer<K: HouseName, N: Link, H: Reporter, R: Wait>(
+fn give_answer<K: HouseName, N: Link, R: Wait>(
     rt: &R,
-    outlets: &GroupOutlets<'_, N, H>,
+    link: &N,
     node: NodeId,
     answer: Option<Sender<Finished<K>>>,
     finished: Finished<K>,
@@ -102,7 +103,7 @@ fn give_answer<K: HouseName, N: Link, H: Reporter, R: Wait>(
     if let Some(answer) = answer {
         let _ = answer.send(rt, finished);
     } else if let Some(buffer) = finished.into_datagram() {
-        outlets.take_back(node, buffer);
+        link.take_back(node, buffer);
     }
 }
 
@@ -132,8 +133,9 @@ pub struct WorkerSetting<'a, K: HouseName, L: HubName, N: Link, G: Gate, H: Repo
     pub(crate) rt: &'a R,
     pub(crate) alloc: Global,
     pub(crate) hub: &'a Hub<K, L>,
-    pub(crate) outlets: GroupOutlets<'a, N, H>,
+    pub(crate) link: &'a N,
     pub(crate) gate: &'a G,
+    pub(crate) reporter: &'a H,
     pub(crate) polling: Polling,
     /// Whether a worker feeds its node, and lets it tick early.
     pub(crate) mends: bool,
@@ -162,8 +164,9 @@ impl<'a, K: HouseName, L: HubName, N: Link, G: Gate, H: Reporter, R: Wait> Worke
             rt,
             alloc,
             hub,
-            outlets: GroupOutlets::new(link, reporter),
+            link,
             gate,
+            reporter,
             polling: Polling::none(),
             mends: false,
         }
@@ -185,7 +188,7 @@ impl<'a, K: HouseName, L: HubName, N: Link, G: Gate, H: Reporter, R: Wait> Worke
     pub fn outlets_for_worker(&self) -> WorkerOutlets<'a, N, H>
         ensures { result ≡ [] }
     {
-        self.outlets.for_worker()
+        WorkerOutlets::new(self.link, self.reporter)
     }
 }
 
@@ -265,9 +268,9 @@ fn do_ticket<
     send_reply(outlets, finished.reply(), &mut state.buffer);
     state.own.learn(setting, node, is_own, &finished);
     let has_published = matches!(finished.settling(), Settling::Told(_));
-    give_answer(rt, &setting.outlets, node, answer, finished);
+    give_answer(rt, setting.link, node, answer, finished);
     if has_published {
-        setting.outlets.ring(node);
+        setting.link.ring(node);
     }
     tally
 }
@@ -390,7 +393,7 @@ pub fn serve_from<
         let (counted, refused) = do_round(setting, node, store, outlets, &mut state, came, tally);
         tally = counted;
         if refused.is_some() {
-            setting.outlets.report_cut_feed(node);
+            setting.reporter.report_cut_feed(node);
         }
     }
     unreachable!()

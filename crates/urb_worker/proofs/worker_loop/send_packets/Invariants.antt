@@ -4,4 +4,4 @@ use Rattle.urb_worker.proofs.worker_loop.send_packets.Given as goal
 
 -- the packets so far
 abbrev pub invariant-loop-index : goal.invariant-loop-index
-invariant-loop-index g l = Sends l.fn.outlets (take l.index l.packets.now) l.outlets
+invariant-loop-index g l = Sends l.fn.outlets (take l.index l.packets) l.outlets

@@ -1,4 +1,4 @@
-use Rattle.std.proofs.Common.{rules}
+use Rattle.std.proofs.Common.{ap, rules, ◌≡◌}
 use Rattle.urb_worker.proofs.ServedStores.{puts_down, with_thread}
 use Rattle.urb_worker.proofs.worker_threads.start_workers.Goals as goal
 
@@ -29,3 +29,14 @@ loop-input-preserved g c = record {
       puts_down _ _ _ _ _ _ _ _ _ c.push_reserved-in-Err.ensures.items c.in-Some.ensures.items
       (search rules) c.loop-input.invariant.numbered;
 }
+
+-- the thread has the store and the node of the promise
+pub spawn_with-requires-clause-keeps : goal.spawn_with-requires-clause-keeps
+spawn_with-requires-clause-keeps g c = λ lives within r left. rw c.of-kept.ensures left
+
+-- and so has a worker without a thread
+pub invariant_of-push_reserved : goal.invariant_of-push_reserved
+invariant_of-push_reserved g c =
+    let same : c.in-Err.refused.value.1 ≡ c.in-Some.input =
+    ap (λ v. v.1) c.in-Err.ensures.err in
+    record { served = rw (c.of-came.ensures, ← same) c.work-store.ensures }

@@ -1,0 +1,28 @@
+-- The end of a house's past, as the last ones of its events.
+use Rattle.std.proofs.Common.{List, subst, ◌++◌, ◌∙◌}
+use Rattle.urb_group.specs.GroupViews.{GroupView, Shows}
+use Rattle.urb_group.specs.RecoveryPlans.{after}
+use Rattle.urb_group.specs.Step.{Event}
+use Rattle.urb_group.specs.World.{World}
+use Rattle.urb_show.proofs.PastEvents.{after_both}
+use Rattle.urb_show.specs.Pasts.{IsLedTo}
+
+module _ (opened group : GroupView) (w : World) (shows : Shows opened w) (before : List Event) where
+  -- a house whose last events are these two lists shows the world after both
+  pub shown_after_two : (first second : List Event)
+      → IsLedTo opened (before ++ (first ++ second)) group
+      → Shows group (after (after (after w before) first) second)
+  shown_after_two first second leads =
+      subst (λ (v : World). Shows group v)
+      (after_both w before (first ++ second) ∙ after_both (after w before) first second)
+      (leads w shows)
+
+  -- the same of four lists
+  pub shown_after_four : (first second third later : List Event)
+      → IsLedTo opened (before ++ (first ++ (second ++ (third ++ later)))) group
+      → Shows group (after (after (after (after (after w before) first) second) third) later)
+  shown_after_four first second third later leads =
+      subst (λ (v : World). Shows group v)
+      (after_both (after (after w before) first) second (third ++ later)
+      ∙ after_both (after (after (after w before) first) second) third later)
+      (shown_after_two first (second ++ (third ++ later)) leads)
