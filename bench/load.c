@@ -1,6 +1,6 @@
 // Closed-loop clients over TCP on 127.0.0.1, one connection a thread.
 //
-//   load KIND PORT CLIENTS SECONDS [PAYLOAD] [CLIENT] [MESSAGES]
+//   load KIND PORT CLIENTS SECONDS [PAYLOAD] [CLIENT] [MESSAGES] [UNDER_WAY]
 //
 // KIND  submit   urbd's SUBMIT, each thread with a client number of its own, from CLIENT on
 //       killed   the same, until the connections break: then the answered submits count
@@ -11,7 +11,8 @@
 //       xrange   redis' XRANGE of 8 entries from the beginning
 //
 // PAYLOAD is 0 to 16384 bytes (16), as many as a message may have, and CLIENT the first number of a client (1000). A thread ends
-// after SECONDS, or once it has its share of MESSAGES (no end), rounded up.
+// after SECONDS, or once it has its share of MESSAGES (0: no end), rounded up. With `submit` and `xadd`, it may have UNDER_WAY
+// requests under way (1, at most 64): it sends so many before the first answer, and one more after each.
 // Prints operations a second, the median and the 99th percentile in microseconds, and how many were refused; for `killed` also
 // how many were not.
 #define _GNU_SOURCE
@@ -26,10 +27,10 @@
 #include <time.h>
 #include <unistd.h>
 
-enum { MOST_CLIENTS = 256, MOST_TIMES = 4000000, LONGEST = 16384, ROOM = 70000 };
+enum { MOST_CLIENTS = 256, MOST_TIMES = 4000000, LONGEST = 16384, ROOM = 70000, MOST_UNDER_WAY = 64 };
 
 static const char *kind;
-static int port, clients, payload_length = 16, first_client = 1000, may_break;
+static int port, clients, payload_length = 16, first_client = 1000, may_break, under_way = 1;
 static uint32_t share = UINT32_MAX;
 static double seconds;
 static unsigned char payload[ROOM];
@@ -140,9 +141,14 @@ static void redis_reply(struct session *s) {
   }
 }
 
+static void add_to_redis(struct session *s) {
+  char text[ROOM + 100];
+  int length = sprintf(text, "*5\r\n$4\r\nXADD\r\n$1\r\ns\r\n$1\r\n*\r\n$1\r\nm\r\n$%d\r\n%s\r\n", payload_length, payload);
+  write_all(s->socket, text, length);
+}
+
 static void once(struct session *s, uint32_t *number) {
   unsigned char body[ROOM];
-  char text[ROOM + 100];
   if (!strcmp(kind, "submit") || may_break) {
     submit(s, *number + 1, first_client + s->index);
     read_frame(s, body);
@@ -153,8 +159,7 @@ static void once(struct session *s, uint32_t *number) {
     read_frame(s, body);
     s->refused += body[0] != 0x82;
   } else if (!strcmp(kind, "xadd")) {
-    int length = sprintf(text, "*5\r\n$4\r\nXADD\r\n$1\r\ns\r\n$1\r\n*\r\n$1\r\nm\r\n$%d\r\n%s\r\n", payload_length, payload);
-    write_all(s->socket, text, length);
+    add_to_redis(s);
     redis_reply(s);
   } else {
     const char *words = "*6\r\n$6\r\nXRANGE\r\n$1\r\ns\r\n$1\r\n-\r\n$1\r\n+\r\n$5\r\nCOUNT\r\n$1\r\n8\r\n";
@@ -163,10 +168,39 @@ static void once(struct session *s, uint32_t *number) {
   }
 }
 
+// Has several requests under way. Each answer is that of the oldest one.
+static void run_ahead(struct session *s) {
+  unsigned char body[ROOM];
+  double begun[MOST_UNDER_WAY], end = now() + seconds;
+  uint32_t sent = 0, answered = 0;
+  int is_redis = !strcmp(kind, "xadd");
+  while (answered < sent || !sent) {
+    while (sent - answered < (uint32_t)under_way && sent < share && now() < end) {
+      begun[sent % MOST_UNDER_WAY] = now();
+      if (is_redis) add_to_redis(s);
+      else submit(s, sent + 1, first_client + s->index);
+      sent++;
+    }
+    if (answered == sent) break;
+    if (is_redis) redis_reply(s);
+    else {
+      read_frame(s, body);
+      s->refused += body[0] != 0x81;
+    }
+    if (s->done < MOST_TIMES) s->times[s->done++] = now() - begun[answered % MOST_UNDER_WAY];
+    answered++;
+  }
+}
+
 static void *run(void *given) {
   struct session *s = given;
   uint32_t number = 0;
   s->socket = opened(port);
+  if (under_way > 1) {
+    run_ahead(s);
+    close(s->socket);
+    return 0;
+  }
   for (double end = now() + seconds, begin; (begin = now()) < end && number < share;) {
     once(s, &number);
     if (s->done < MOST_TIMES) s->times[s->done++] = now() - begin;
@@ -219,7 +253,7 @@ static int rising(const void *a, const void *b) {
 
 int main(int count, char **words) {
   if (count < 5) {
-    fprintf(stderr, "usage: load KIND PORT CLIENTS SECONDS [PAYLOAD] [CLIENT] [MESSAGES]\n");
+    fprintf(stderr, "usage: load KIND PORT CLIENTS SECONDS [PAYLOAD] [CLIENT] [MESSAGES] [UNDER_WAY]\n");
     return 2;
   }
   kind = words[1], port = atoi(words[2]), clients = atoi(words[3]), seconds = atof(words[4]);
@@ -227,7 +261,9 @@ int main(int count, char **words) {
   if (count > 6) first_client = atoi(words[6]);
   may_break = !strcmp(kind, "killed");
   if (clients < 1 || clients > MOST_CLIENTS || payload_length < 0 || payload_length > LONGEST) return 2;
-  if (count > 7) share = (atoi(words[7]) + clients - 1) / clients;
+  if (count > 7 && atoi(words[7])) share = (atoi(words[7]) + clients - 1) / clients;
+  if (count > 8) under_way = atoi(words[8]);
+  if (under_way < 1 || under_way > MOST_UNDER_WAY || (under_way > 1 && strcmp(kind, "submit") && strcmp(kind, "xadd"))) return 2;
   memset(payload, 'x', payload_length);
   int is_visible = !strcmp(kind, "visible"), threads = is_visible ? 1 : clients;
   struct session *sessions = calloc(threads, sizeof *sessions);

@@ -90,10 +90,14 @@ class Load:
         payload: int = PAYLOAD,
         client: int = FIRST_CLIENT,
         messages: int = 0,
+        under_way: int = 1,
     ) -> Run:
-        """Begins a run. It ends after so many seconds, or messages if they aren't 0."""
+        """Begins a run. It ends after so many seconds, or messages if they aren't 0.
+
+        A client that submits or adds may have several requests under way.
+        """
         words = [self.path, kind, port, clients, seconds, payload, client]
-        return begin([*words, messages] if messages else words)
+        return begin([*words, messages, under_way])
 
     def run(
         self, kind: str, port: int, clients: int, seconds: float, client: int = FIRST_CLIENT
@@ -111,8 +115,7 @@ class Floor:
     def built(cls, room: Path) -> Floor:
         return cls(compiled("floor.c", room))
 
-    def run(self, room: Path, nodes: int, clients: int, seconds: float, what: str = "") -> Answer:
-        """`what` is `visible` or `read`, as the head of floor.c says, or empty."""
+    def run(self, room: Path, nodes: int, clients: int, seconds: float, *what: object) -> Answer:
+        """`what` is `visible`, `read` or `together`, as the head of floor.c says, or nothing."""
         with new_folder(room) as folder:
-            words = [self.path, nodes, clients, seconds, *([what] if what else [])]
-            return begin(words, folder).answer()
+            return begin([self.path, nodes, clients, seconds, *what], folder).answer()

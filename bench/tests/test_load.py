@@ -40,6 +40,9 @@ class Programs(StubTest):
             submits = clients.begin("submit", port, 2, 20, client=50, messages=6)
             self.assertEqual(submits.answer().refused, 0)
             self.assertEqual(daemon.node(1).status().accepted, 6)
+            ahead = clients.begin("submit", port, 2, 20, client=60, messages=80, under_way=16)
+            self.assertEqual(ahead.answer().refused, 0)
+            self.assertEqual(daemon.node(1).status().accepted, 86)
             for kind, count in (("read", 1), ("visible", 3)):
                 with self.subTest(kind):
                     answer = clients.run(kind, port, count, 0.1)
@@ -47,8 +50,11 @@ class Programs(StubTest):
                     self.assertLessEqual(answer.median, answer.late)
 
     def test_the_floor(self) -> None:
-        answer = Floor.built(self.room).run(self.room, 1, 1, 0.1)
-        self.assertGreater(answer.rate, 0)
+        floor = Floor.built(self.room)
+        for what in ((), ("together", 16, 1), ("together", 16, 4)):
+            with self.subTest(what):
+                self.assertGreater(floor.run(self.room, 1, 2, 0.1, *what).rate, 0)
+        self.assertGreater(floor.run(self.room, 3, 3, 0.1, "together", 4, 2).rate, 0)
         self.assertEqual([it.name for it in self.room.iterdir()], ["floor"])
 
 
