@@ -49,13 +49,11 @@ fn ask_twice<K: HouseName, R: Wait>(
 
 // Answers the next ticket by this turn.
 fn answer_next<K: HouseName, R: Wait>(rt: &R, jobs: &Receiver<Ticket<K>>, finished: Finished<K>) {
-    if let Ok(
-        Ticket {
-            job: _,
-            answer: Some(answer),
-        },
-    ) = jobs.recv(rt)
-    {
+    let Ok(ticket) = jobs.recv(rt) else {
+        return;
+    };
+    let Ticket { job: _, answer } = ticket;
+    if let Some(answer) = answer {
         let _ = answer.send(rt, finished);
     }
 }
