@@ -179,6 +179,8 @@ def main(words: Sequence[str], tree: Tree = Tree()) -> int:
     is_quick = parser.parse_args(words).quick
     # so that what --sample copied is removed if somebody ends the gate
     signal.signal(signal.SIGTERM, lambda number, frame: sys.exit(128 + number))
+    # so that the programs of the tests heed Ctrl-C: a shell may start a background job without it
+    signal.signal(signal.SIGINT, signal.default_int_handler)
     total = run_steps(tree, quick_steps(tree))
     if not is_quick and not total.failed:
         total.add(prove(tree))
