@@ -9,6 +9,7 @@ import re
 from collections import Counter
 from collections.abc import Iterator, Mapping
 
+from tools.checks.calls import misplaced_calls, without_comments
 from tools.tree import Misfit, Tree
 
 # The calls that change a file or a folder, or open one for writing.
@@ -29,7 +30,6 @@ CALLS = (
     "fs::copy",
 )
 CALL = re.compile(r"(?<!fn )\b(" + "|".join(map(re.escape, CALLS)) + r")\(")
-COMMENT = re.compile(r"//.*")
 # The places by call and file: how many there are.
 PLACES: Mapping[tuple[str, str], int] = {
     # the socket of a node: one that an ended program left, or the group's own at its end
@@ -54,21 +54,11 @@ PLACES: Mapping[tuple[str, str], int] = {
 
 def calls_in(text: str) -> Counter[str]:
     """How often a source calls each of them. Methods count, definitions don't."""
-    return Counter(CALL.findall(COMMENT.sub("", text)))
+    return Counter(CALL.findall(without_comments(text)))
 
 
 def changes_of_files(
     tree: Tree, places: Mapping[tuple[str, str], int] = PLACES
 ) -> Iterator[Misfit]:
-    """Each call that may change a file stands in the table."""
-    left = dict(places)
-    for path in tree.sources():
-        name = tree.name_of(path)
-        if "_tests/" in name:
-            continue
-        for call, count in sorted(calls_in(path.read_text()).items()):
-            told = left.pop((call, name), 0)
-            if count != told:
-                yield Misfit(name, f"calls {call} {count} times, and not {told}")
-    for call, name in left:
-        yield Misfit(name, f"is in the table of files, but doesn't call {call}")
+    """Each call that may change a file is in the table."""
+    yield from misplaced_calls(tree, calls_in, places, "files")

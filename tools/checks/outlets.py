@@ -9,10 +9,10 @@ import re
 from collections import Counter
 from collections.abc import Iterator, Mapping
 
+from tools.checks.calls import misplaced_calls, without_comments
 from tools.tree import Misfit, Tree
 
 CALL = re.compile(r"\b(link\s*\.send|reporter\s*\.report)\(")
-COMMENT = re.compile(r"//.*")
 # The places by call and file: how many there are.
 PLACES: Mapping[tuple[str, str], int] = {
     # a link that waits for receivers sends over another link
@@ -25,22 +25,12 @@ PLACES: Mapping[tuple[str, str], int] = {
 
 def calls_in(text: str) -> Counter[str]:
     """How often a source sends over a link, and how often it reports a change."""
-    found = CALL.findall(COMMENT.sub("", text))
+    found = CALL.findall(without_comments(text))
     return Counter(re.sub(r"\s", "", call) for call in found)
 
 
 def sends_and_reports(
     tree: Tree, places: Mapping[tuple[str, str], int] = PLACES
 ) -> Iterator[Misfit]:
-    """Each call that sends over a link or reports a change stands in the table."""
-    left = dict(places)
-    for path in tree.sources():
-        name = tree.name_of(path)
-        if "_tests/" in name:
-            continue
-        for call, count in sorted(calls_in(path.read_text()).items()):
-            told = left.pop((call, name), 0)
-            if count != told:
-                yield Misfit(name, f"calls {call} {count} times, and not {told}")
-    for call, name in left:
-        yield Misfit(name, f"is in the table of outlets, but doesn't call {call}")
+    """Each call that sends over a link or reports a change is in the table."""
+    yield from misplaced_calls(tree, calls_in, places, "outlets")

@@ -108,7 +108,7 @@ has_past_after opened old new event (Err why) past longer copied kept events mor
     (subst (λ (n : ℕ). HasPast opened past n new) (sym counts)
     (subst (λ (g : GroupView). HasPast opened past events g) (sym as_before) has))
 
--- what stands in the shared history is a prefix of the longer past too
+-- the shared history is a prefix of the longer past too
 pub told_after : {T E : Type 0} (told past longer copied kept : List Event) (event : Event)
     (r : Result T E) → IsPrefix told past → longer ≡ past ++ event ∷ [] → copied ≡ past
     → kept ≡ (if is_ok r then longer else copied) → IsPrefix told kept

@@ -20,8 +20,9 @@ abbrev pub IsReachedBy : GroupView → List Event → Type 0
 IsReachedBy opened past =
     (w : World) → Shows opened w → IsReached w → IsReached (after w past)
 
--- This event stands at this place of a history; places count from 0. In each world that the group
--- showed at the opening, the events before it lead to a world in which it gets this reply.
+-- This event is at this place of a history; places count from 0. Take any world that the group
+-- showed at the opening. The events before this one lead from it to a world, and there this event
+-- gets this reply.
 pub record IsToldAt (opened : GroupView) (history : List Event) (place : ℕ) (event : Event)
     (reply : Reply) : Type 0 where
   pub stands : slice_get history place ≡ Some event

@@ -1,4 +1,4 @@
-//! The moments of a house: its past, as far as it stands in the history that all threads share.
+//! The moments of a house: the part of its past that the history of all threads has.
 ghost use Rattle.std.specs.Prelude.{◌≡◌, IfSome, length};
 ghost use mathlib.Core.List.{IsPrefix};
 

@@ -1,5 +1,5 @@
-//! The laws about what readers see, what callers are told, and what a house delivers. Each law is
-//! the contract of a function that does nothing.
+//! The laws about what readers see, which replies callers get, and what a house delivers. Each law
+//! is the contract of a function that does nothing.
 ghost use Rattle.std.specs.Prelude.{List, [], length, ℕ, ◌++◌, ◌∷◌, ◌≡◌};
 ghost use Rattle.std.specs.declared.alloc.Global.{Global};
 ghost use Rattle.urb_group.specs.GroupCalls.{Steps};
@@ -79,7 +79,7 @@ pub fn two_busy_rounds_of_a_house_deliver()
 }
 
 /// A house falls silent. If its past had three rounds, and the third one's answers arrived too, no
-/// tick sends anything, as long as no new message is drafted, no node crashes and no store fails.
+/// tick sends anything. This ends when a message is drafted, a node crashes or a store fails.
 pub fn three_rounds_of_a_house_end_its_ticks()
     ensures { (opened group : GroupView) (w : World) (before first second third later : List Event)
         → Shows opened w → IsReached w

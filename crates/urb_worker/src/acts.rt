@@ -7,7 +7,7 @@ use logbook::{Opening, Rule, Seen, Start};
 use std::marker::Model;
 use urb_names::NodeId;
 
-// A book of which nothing is asked.
+// The rule of a book that may hold any list.
 struct Free;
 
 impl Rule<ListedAct, u64> for Free {

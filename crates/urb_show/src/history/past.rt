@@ -6,7 +6,7 @@ use crate::history::tokens::Add;
 use logbook::{Opening, Plain, Rule, Seen, Start};
 use std::marker::Model;
 
-/// A book of which nothing is asked.
+/// The rule of a book that may hold any list.
 pub(crate) struct Free;
 
 impl Rule<Happening, u64> for Free {

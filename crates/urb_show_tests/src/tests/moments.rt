@@ -1,6 +1,6 @@
 //! Moments of a house: each event has a place in the one history, and callers learn it.
 //!
-//! The clauses say what stands at a place that a caller is told. The test counts moments, since a
+//! The clauses say which event is at the place that a caller gets. The test counts moments, since a
 //! house that never gave one would meet them.
 ghost use Rattle.std.specs.Prelude.{◌≡◌, IfSome, length};
 ghost use Rattle.urb_group.specs.Step.{Crash};
@@ -55,7 +55,7 @@ pub fn crash_by<K: HouseName, R: Wait>(
     place
 }
 
-// Whether the house has a moment now, behind this many events, and the caller learns it.
+// Whether the house has a moment now, whose place is this number. The caller learns it.
 fn is_at<K: HouseName>(house: &mut House<K>, me: &mut Moment<K>, events: u64) -> bool {
     let Some(moment) = house.mark() else {
         return false;
@@ -101,7 +101,7 @@ fn fail_and_restart<K: HouseName>(
     Some(failed && is_at(house, me, 8))
 }
 
-// Two callers crash a node each, through the lock. Each is told its own place.
+// Two callers crash a node each, through the lock. Each gets its own place.
 fn crash_two<K: HouseName, R: Wait>(
     rt: &R,
     house: House<K>,

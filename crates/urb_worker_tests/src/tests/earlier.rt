@@ -69,7 +69,7 @@ fn answer_both<K: HouseName, R: Wait>(
     answer_next(rt, &jobs, second);
 }
 
-// Whether a desk is told the node's status: the first time, and the second time.
+// Whether a desk gets the node's status: the first time, and the second time.
 fn are_told<K: HouseName, R: Wait + Clock>(
     rt: &R,
     alloc: Global,
@@ -87,7 +87,7 @@ fn are_told<K: HouseName, R: Wait + Clock>(
     Some((first, second))
 }
 
-// What a desk is told by two turns, in their order or the other way round.
+// Whether a desk gets a status from two turns, in their order or the other way round.
 fn ask_desk<K: HouseName + Send + Sync, R: Threads + Wait + Clock + Sync>(
     rt: &R,
     alloc: Global,

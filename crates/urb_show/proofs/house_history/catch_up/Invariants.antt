@@ -2,7 +2,7 @@ use Rattle.std.proofs.Common.{length, ◌-◌, ◌≡◌}
 use mathlib.Core.List.{IsPrefix}
 use Rattle.urb_show.proofs.house_history.catch_up.Given as goal
 
--- what is told is a prefix of the past
+-- the shared history is a prefix of the past
 abbrev pub invariant-loop-told : goal.invariant-loop-told
 invariant-loop-told g l = IsPrefix l.told l.past × (l.events ≡ length l.past)
 
