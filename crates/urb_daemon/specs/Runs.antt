@@ -1,13 +1,20 @@
 -- How a run of a group ends, and its stores after it.
 use Rattle.std.specs.Prelude.{Bool, Err, List, Ok, Result, [], false, length, true, ℕ, ◌∷◌, ◌≡◌}
 use Rattle.std.specs.Prelude.{◌⊎◌}
+use Rattle.std.specs.List.{All}
 use Rattle.urb_names.specs.LabelsAndContents.{Limits}
 use Rattle.urb_names.specs.declared.refusal.Refusal.{Refusal}
 use Rattle.urb_stable.specs.Entries.{Entry}
 use Rattle.urb_stable.specs.declared.stable.Stable.{Ghosts}
 use Rattle.urb_stable.specs.declared.stable.StoreFault.{StoreFault}
 use Rattle.urb_group.specs.StoreQuestions.{Gives}
-use Rattle.urb_group.specs.GroupViews.{GroupView}
+use Rattle.urb_group.specs.GroupViews.{GroupView, Shows}
+use Rattle.urb_group.specs.RecoveryPlans.{after}
+use Rattle.urb_group.specs.Step.{Event}
+use Rattle.urb_group.specs.StoreContents.{IsKnown}
+use Rattle.urb_group.specs.StoreOpenings.{HasStopped}
+use Rattle.urb_group.specs.World.{World}
+use Rattle.urb_show.specs.Pasts.{IsLedTo}
 use Rattle.urb_worker.specs.ServedStores.{AreServed, numbers_from}
 use Rattle.urb_cli.specs.declared.command_line.options.ServeOptions.{ServeOptions}
 use Rattle.urb_daemon.specs.declared.serve_fault.ServeFault.{ServeFault}
@@ -53,6 +60,22 @@ module _ {S A : Type 0} (g : Ghosts S A) where
     pub first : MayAllBeAsked stores asked
     pub then : (lasts ≡ asked) ⊎ ((group : GroupView) × HaveServed group asked lasts)
 
+  -- A run of this group ended. Its history led from a world of the opened group to a last one, and
+  -- the stores hold what a stop leaves of that one. So the next start, under these limits, goes on
+  -- from there.
+  pub record StopsAfter (size : Limits) (group : GroupView) (lasts : List S) : Type 0 where
+    pub start : World
+    pub opening : Shows group start
+    pub history : List Event
+    pub later : GroupView
+    pub leads : IsLedTo group history later
+    pub stopped : HasStopped g later (after start history) size lasts
+
+  -- the same, if the run came to its end
+  abbrev pub StopsIfEnded : Result ℕ ServeFault → Limits → GroupView → List S → Type 0
+  StopsIfEnded (Ok events) size group lasts = StopsAfter size group lasts
+  StopsIfEnded (Err why) size group lasts = Unit {0}
+
   -- the group could not be opened from these stores, and the run ends with that refusal
   pub record EndsUnopened (size : Limits) (stores : List S) (end : Result ℕ ServeFault)
       (lasts : List S) : Type 0 where
@@ -67,6 +90,7 @@ module _ {S A : Type 0} (g : Ghosts S A) where
     pub asked : List S
     pub opens : OpensTogether g size stores (Ok group) asked
     pub served : HaveServed group asked lasts
+    pub leaves : All (IsKnown g) stores → StopsIfEnded end size group lasts
     pub ends : EndsAs told end
 
   -- how a run over these stores ends, and the stores after it, depending on whether its opening was

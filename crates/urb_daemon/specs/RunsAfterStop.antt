@@ -4,6 +4,7 @@ use Rattle.std.specs.List.{All}
 use Rattle.urb_names.specs.LabelsAndContents.{Limits}
 use Rattle.urb_names.specs.declared.refusal.Refusal.{Refusal}
 use Rattle.urb_stable.specs.declared.stable.Stable.{Ghosts}
+use Rattle.urb_group.specs.StoreContents.{IsKnown}
 use Rattle.urb_group.specs.StoreOpenings.{ContinuesFrom}
 use Rattle.urb_group.specs.GroupViews.{GroupView}
 use Rattle.urb_group.specs.World.{World}
@@ -11,7 +12,7 @@ use Rattle.urb_daemon.specs.declared.serve_fault.ServeFault.{ServeFault}
 use Rattle.urb_daemon.specs.declared.serve_fault.ServeFault.TheVariants.{Unopened}
 use Rattle.urb_folder.specs.GroupsAfterStop.{ContinuesTogether}
 use Rattle.urb_folder.specs.AskedStores.{OpensTogether}
-use Rattle.urb_daemon.specs.Runs.{EndsAs, HaveServed}
+use Rattle.urb_daemon.specs.Runs.{EndsAs, HaveServed, StopsIfEnded}
 
 module _ {S A : Type 0} (g : Ghosts S A) where
   -- The group could not be opened over what a stop had left, and the run ends with that refusal.
@@ -35,6 +36,7 @@ module _ {S A : Type 0} (g : Ghosts S A) where
     pub opens : OpensTogether g size passed (Ok group) asked
     pub goes_on : All g.is_honest asked → ContinuesFrom g w passed group
     pub served : HaveServed g group asked lasts
+    pub leaves : All (IsKnown g) passed → StopsIfEnded g end size group lasts
     pub ends : EndsAs told end
 
   -- how a run over what a stop of this world had left ends, depending on whether its opening was

@@ -1,6 +1,6 @@
 //! The run of a group over its stores, from its opening until standard input ends.
 
-ghost use Rattle.std.specs.Prelude.{◌≡◌, OnOk, vec_len};
+ghost use Rattle.std.specs.Prelude.{◌≡◌, IfSome, OnOk, vec_len};
 ghost use Rattle.std.specs.Io.KnownBytes.{Appends};
 ghost use Rattle.urb_group.specs.StoreOpenings.{HasStopped};
 ghost use Rattle.urb_group.specs.GroupViews.{GroupView};
@@ -9,6 +9,7 @@ ghost use Rattle.urb_daemon.specs.Endings.{ShowsEnd, closed_line};
 ghost use Rattle.urb_daemon.specs.RunsAfterStop.{EndsAfterStop};
 ghost use Rattle.urb_daemon.specs.Runs.{ComeBack, EndsFrom, HaveServed, limits_of};
 ghost use Rattle.urb_daemon.specs.internal.Runs.{end_of};
+ghost use Rattle.urb_worker.specs.ServedStores.{EndsWhole};
 
 use crate::console::Console;
 use crate::serve_fault::{ServeFault, report_serve_fault};
@@ -77,6 +78,10 @@ where
     ensures count { vec_len result.0 ≡ vec_len stores }
     // Each store is returned at its place, as jobs of its own node in this group left it.
     ensures order { HaveServed S.Stable group stores.items result.0.items }
+    // If there is a count, one history led from the group to its end, and each store matches its
+    // node after it.
+    ensures whole { IfSome result.1
+        (λ events. EndsWhole S.Stable group stores.items result.0.items) }
 {
     let blank = Blank::new(u64::from(group.config().n()));
     let Ok(opened) = House::open(group) else {

@@ -25,6 +25,8 @@ pub mod WaitingNodes
 pub mod StoreKeeping
 pub mod TurnSteps
 pub mod OtherNodes
+pub mod LastLoans
+pub mod EndedRuns
 pub mod ReportedChanges
 pub mod NodeFeeds
 pub mod Pulses

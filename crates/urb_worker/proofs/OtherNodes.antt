@@ -1,15 +1,17 @@
 -- What a turn does to the nodes of other workers, and what a stored record says about its store.
-use Rattle.std.proofs.Common.{Err, List, None, Ok, Option, Result, Some, Vec, ap, eqb-true, false}
-use Rattle.std.proofs.Common.{refl, subst, sym, true, ℕ, ◌++◌, ◌-◌, ◌==◌, ◌∙◌, ◌∷◌, [], ◌≡◌, ◌≢◌}
+use Rattle.std.proofs.Common.{Err, List, None, Ok, Option, Result, Some, Vec, ap, append_assoc}
+use Rattle.std.proofs.Common.{eqb-true, false, inl, inr, refl, subst, sym, true, ℕ, ◌++◌, ◌-◌, ◌==◌}
+use Rattle.std.proofs.Common.{◌∙◌, ◌∷◌, [], ◌≡◌, ◌≢◌}
+use Rattle.std.proofs.lemmas.List.{append-nil}
 use Rattle.std.proofs.lemmas.Bool.{ne_eqb}
 use Rattle.std.specs.declared.alloc.Global.{Global}
 use Rattle.urb_group.proofs.shown.AgreeingWorlds.{sound-kept}
-use Rattle.urb_group.proofs.steps.DraftsInSteps.{event_node}
-use Rattle.urb_group.proofs.stops.StockedSteps.{leaves-stay}
+use Rattle.urb_group.proofs.stops.StockedSteps.{Stays, leaves-stay}
 use Rattle.urb_group.proofs.stops.StoppedWorlds.{survives}
-use Rattle.urb_group.specs.GroupCalls.{ComesUp, Commits, GoesDown, Takes}
+use Rattle.urb_group.specs.GroupCalls.{Takes}
 use Rattle.urb_group.specs.GroupViews.{GroupView, IsSound, Shows, view_of}
-use Rattle.urb_group.specs.Step.{Arrive, Commit, Crash, Event, Fail, Restart, Submit, Tick}
+use Rattle.urb_group.specs.RecoveryPlans.{after}
+use Rattle.urb_group.specs.Step.{Arrive, Event, Submit}
 use Rattle.urb_group.specs.ProcessStops.{GoesOnIn, MayLeave}
 use Rattle.urb_group.specs.World.{World}
 use Rattle.urb_group.specs.declared.reply.Reply.{Reply}
@@ -18,12 +20,14 @@ use Rattle.urb_group.specs.declared.state.State.{State}
 use Rattle.urb_group.specs.declared.state.State.TheVariants as state
 use Rattle.urb_group.specs.declared.taken.Taken.{Taken}
 use Rattle.urb_group.specs.declared.taken.Taken.TheVariants as taken
+use Rattle.urb_names.specs.CarriedPackets.{Carried}
 use Rattle.urb_names.specs.LabelsAndContents.{Limits}
 use Rattle.urb_names.specs.PacketGrammar.{packet_of}
 use Rattle.urb_names.specs.declared.refusal.Refusal.{Refusal}
 use Rattle.urb_names.specs.declared.refusal.Refusal.TheVariants as refusal
 use Rattle.urb_node.specs.Replies.{Done}
 use Rattle.urb_node.specs.NodeViews.{ShowsNode}
+use Rattle.urb_show.proofs.PastEvents.{after_both}
 use Rattle.urb_show.specs.Houses.{HouseView}
 use Rattle.urb_show.specs.declared.status.Status.{Status}
 use Rattle.urb_stable.specs.StoreAnswers.{answer_of}
@@ -34,225 +38,227 @@ use Rattle.urb_stable.specs.PlacedRecords.{Placed}
 use Rattle.urb_stable.specs.StableStorage.{refusal_of}
 use Rattle.urb_stable.specs.declared.stable.Stable.{Ghosts}
 use Rattle.urb_stable.specs.declared.stable.StoreFault.{StoreFault}
-use Rattle.urb_worker.proofs.StoreKeeping.{settled_group}
-use Rattle.urb_worker.proofs.WaitingNodes.{waited-stays, waits-crash, waits-event}
-use Rattle.urb_worker.proofs.WaitingNodes.{waits-on, waits-same}
+use Rattle.urb_worker.proofs.GrowingPasts.{settled_past}
+use Rattle.urb_worker.proofs.LastingStores.{stays}
+use Rattle.urb_worker.proofs.TurnSteps.{goes_on, goes_still}
+use Rattle.urb_worker.proofs.WaitingNodes.{elsewhere-waited, waited-stays}
 use Rattle.urb_worker.specs.Jobs.{node_of, runs_at}
+use Rattle.urb_worker.specs.NodeStores.{AreElsewhere, HasRested, IsStoreAfter, LeavesAfter, is_own}
 use Rattle.urb_worker.specs.Settlings.{Published}
-use Rattle.urb_worker.specs.Stages.{image_stage, kept_stage, restart_stage}
-use Rattle.urb_worker.specs.Stages.{state_reply, status_reply, taken_stage}
-use Rattle.urb_worker.specs.Turns.{Begins, Ends, IsKeptOf, Stores}
-use Rattle.urb_worker.specs.WholeTurns.{HasWaited, IsTurn, LeavesAt, Waits}
+use Rattle.urb_worker.specs.Stages.{crash_stage, image_stage, kept_stage, restart_stage}
+use Rattle.urb_worker.specs.Stages.{state_reply, status_reply, taken_stage, tick_stage}
+use Rattle.urb_worker.specs.Turns.{Begins, Counts, Ends, Goes, IsKeptOf, Stores}
+use Rattle.urb_worker.specs.WholeTurns.{IsTurn}
 use Rattle.urb_worker.specs.Views.{FinishedView}
 use Rattle.urb_worker.specs.declared.job.Job.{Job}
 use Rattle.urb_worker.specs.declared.job.Job.TheVariants as job
 use Rattle.urb_worker.specs.declared.turn_stages.Stage.{Stage}
 use Rattle.urb_worker.specs.declared.turn_stages.Stage.TheVariants as stage
 
--- node n isn't this one
-apart-from : (n m p : ℕ) → n ≢ m → p ≡ m → (n == p) ≡ false
-apart-from n m p other here = ne_eqb n p (λ e. other (e ∙ here))
+-- ---- a node rests
+
+-- a node rests from a moment to the same moment
+pub rests-none : (n : ℕ) (past : List Event) → HasRested n past past
+rests-none n past = record { between = []; later_is = sym (append-nil past); elsewhere = tt }
+
+both-elsewhere : (n : ℕ) (first second : List Event) → AreElsewhere n first
+    → AreElsewhere n second → AreElsewhere n (first ++ second)
+both-elsewhere n [] second one two = two
+both-elsewhere n (event ∷ first) second one two = (one.0, both-elsewhere n first second one.1 two)
+
+-- a node that rested twice, one time after the other, rested all along
+pub rests-on : (n : ℕ) (first second third : List Event) → HasRested n first second
+    → HasRested n second third → HasRested n first third
+rests-on n first second third one two =
+    record {
+      between = one.between ++ two.between;
+      later_is =
+          two.later_is
+          ∙ (ap (λ (l : List Event). l ++ two.between) one.later_is
+          ∙ append_assoc first one.between two.between);
+      elsewhere = both-elsewhere n one.between two.between one.elsewhere two.elsewhere;
+    }
+
+rests-same : (n : ℕ) (old new : HouseView) → new ≡ old → HasRested n old.past new.past
+rests-same n old new e =
+    subst (λ (house : HouseView). HasRested n old.past house.past) (sym e) (rests-none n old.past)
+
+rests-settled : (n : ℕ) (old between new : HouseView) → HasRested n old.past between.past
+    → new.past ≡ between.past → HasRested n old.past new.past
+rests-settled n old between new rested same =
+    subst (λ (past : List Event). HasRested n old.past past) (sym same) rested
+
+-- each node rests while a node crashes, and while another node has an event
+counts-rest : {T E : Type 0} (n : ℕ) (event : Event) (r : Result T E) (old new : HouseView)
+    → is_own n event ≡ false → Counts event r old new → HasRested n old.past new.past
+counts-rest n event (Ok done) old new apart next =
+    record { between = event ∷ []; later_is = next.past; elsewhere = (apart, tt) }
+counts-rest n event (Err refused) old new apart same = rests-same n old new same
 
 -- ---- the event before the store
 
 module _ (n m : ℕ) (other : n ≢ m) where
-  takes-wait : (p : ℕ) (old new : GroupView) (event : Event) (r : Result (Taken Global) Refusal)
-      → event_node event ≡ p → p ≡ m → Takes old p event r new → Waits n old new
-  takes-wait p old new event (Ok (taken.Same answer)) e here h =
-      waits-event n old new event _ (apart-from n m (event_node event) other (e ∙ here)) h
-  takes-wait p old new event (Ok (taken.Store draft)) e here h =
-      waits-event n old new event _ (apart-from n m (event_node event) other (e ∙ here)) h.0
-  takes-wait p old new event (Err r) e here h = waits-same n old new h.1
+  -- a number that is m isn't n
+  apart : (p : ℕ) → p ≡ m → (p == n) ≡ false
+  apart p here = ne_eqb p n (λ e. other (sym e ∙ here))
 
-  begins-wait : (j : Job) (old new : HouseView) (at : Stage) (events : ℕ) → runs_at m j ≡ true
-      → Begins old j new at events → Waits n old.group new.group
-  begins-wait (job.Submit p client number payload) old new at events runs
-      (r, takes, counts, is, rest) =
-      takes-wait p old.group new.group
-      (Submit p (record { client = client; number = number; payload = payload })) r refl
-      (eqb-true p m runs) takes
-  begins-wait (job.Arrive p bytes) old new at events runs (r, takes, counts, is, rest) =
-      takes-wait p old.group new.group (Arrive p (packet_of bytes.items)) r refl
-      (eqb-true p m runs) takes
-  begins-wait (job.Tick p) old new at events runs (Ok packets, ticks, counts, is, rest) =
-      waits-event n old.group new.group (Tick p) _
-      (apart-from n m p other (eqb-true p m runs)) ticks
-  begins-wait (job.Tick p) old new at events runs (Err r, ticks, counts, is, rest) =
-      waits-same n old.group new.group ticks.1
-  begins-wait (job.Crash p) old new at events runs (Ok done, crashes, counts, is, rest) =
-      waits-crash n p old.group new.group _ crashes
-  begins-wait (job.Crash p) old new at events runs (Err r, crashes, counts, is, rest) =
-      waits-same n old.group new.group crashes.1
-  begins-wait (job.Restart p) old new at events runs (s, answers, same, is, rest) =
-      waits-same n old.group new.group (ap (λ (h : HouseView). h.group) same)
-  begins-wait (job.Status p) old new at events runs (same, is, rest) =
-      waits-same n old.group new.group (ap (λ (h : HouseView). h.group) same)
+  -- the turn's event before its store is none of node n itself
+  pub begins-rest : (j : Job) (old new : HouseView) (at : Stage) (events : ℕ) → runs_at m j ≡ true
+      → Begins old j new at events → HasRested n old.past new.past
+  begins-rest (job.Submit p client number payload) old new at events runs
+      (r, takes, counts, is, rest) = counts-rest n _ r old new (apart p (eqb-true p m runs)) counts
+  begins-rest (job.Arrive p bytes) old new at events runs (r, takes, counts, is, rest) =
+      counts-rest n _ r old new (apart p (eqb-true p m runs)) counts
+  begins-rest (job.Tick p) old new at events runs (r, ticks, counts, is, rest) =
+      counts-rest n _ r old new (apart p (eqb-true p m runs)) counts
+  begins-rest (job.Crash p) old new at events runs (r, crashes, counts, is, rest) =
+      counts-rest n _ r old new refl counts
+  begins-rest (job.Restart p) old new at events runs (s, answers, same, is, rest) =
+      rests-same n old new same
+  begins-rest (job.Status p) old new at events runs (same, is, rest) = rests-same n old new same
 
-  -- ---- the event after it
+-- ---- the event after it
 
-  commits-wait : (old new : GroupView) (receipt : Placed) (r : Result Done (Placed × Refusal))
-      → receipt.node ≡ m → Commits old receipt r new → Waits n old new
-  commits-wait old new receipt (Ok done) here h =
-      waits-event n old new (Commit receipt.node receipt.pos receipt.entry) _
-      (apart-from n m receipt.node other here) h
-  commits-wait old new receipt (Err e) here h = waits-same n old new h.0.1
-
-  fails-wait : (old new : GroupView) (p : ℕ) (r : Result (Unit {0}) Refusal) → p ≡ m
-      → GoesDown old p (Fail p) r new → Waits n old new
-  fails-wait old new p (Ok done) here h =
-      waits-event n old new (Fail p) _ (apart-from n m p other here) h
-  fails-wait old new p (Err e) here h = waits-same n old new h.1
-
-  rises-wait : (old new : GroupView) (p : ℕ) (image : List Entry) (r : Result (Unit {0}) Refusal)
-      → p ≡ m → ComesUp old p (Restart p image) r new → Waits n old new
-  rises-wait old new p image (Ok done) here h =
-      waits-event n old new (Restart p image) _ (apart-from n m p other here) h
-  rises-wait old new p image (Err e) here h = waits-same n old new h.1
-
-module _ {S A : Type 0} (g : Ghosts S A) (n m : ℕ) (other : n ≢ m) (before after : S) (j : Job)
-    (runs : runs_at m j ≡ true) (again left : HouseView) (said : Reply Global)
+module _ (n m : ℕ) (other : n ≢ m) (j : Job) (again left : HouseView) (said : Reply Global)
     (status : Option Status) (settling : Published) (count : ℕ) where
   abbrev Ending : Stage → Type 0
   Ending at = Ends again j at left said status settling count
 
-  kept-wait : (draft : Placed) (r : Result Placed Doubted) → draft.node ≡ m → IsKeptOf draft r
-      → Ending (kept_stage r) → Waits n again.group left.group
-  kept-wait draft (Ok receipt) here is
+  kept-rest : (draft : Placed) (r : Result Placed Doubted) → draft.node ≡ m → IsKeptOf draft r
+      → Ending (kept_stage r) → HasRested n again.past left.past
+  kept-rest draft (Ok receipt) here is
       (r, between, commits, counts, settles, is_said, is_status, is_count) =
-      waits-on n again.group between.group left.group
-      (commits-wait n m other again.group between.group receipt r
-      (ap (λ (d : Placed). d.node) is ∙ here) commits)
-      (waits-same n between.group left.group (settled_group _ _ between left settling settles))
-  kept-wait draft (Err doubt) here is (r, fails, counts, is_said, is_status, is_told, is_count) =
-      fails-wait n m other again.group left.group doubt.node r (is ∙ here) fails
+      rests-settled n again between left
+      (counts-rest n _ r again between
+      (apart n m other receipt.node (ap (λ (d : Placed). d.node) is ∙ here)) counts)
+      (settled_past _ _ between left settling settles)
+  kept-rest draft (Err doubt) here is (r, fails, counts, is_said, is_status, is_told, is_count) =
+      counts-rest n _ r again left (apart n m other doubt.node (is ∙ here)) counts
 
-  image-wait : (r : Result (Vec Entry Global) StoreFault) → node_of j ≡ m → Ending (image_stage r)
-      → Waits n again.group left.group
-  image-wait (Ok image) here (r, between, rises, counts, settles, is_said, is_status, is_count) =
-      waits-on n again.group between.group left.group
-      (rises-wait n m other again.group between.group (node_of j) image.items r here rises)
-      (waits-same n between.group left.group (settled_group _ _ between left settling settles))
-  image-wait (Err fault) here ends =
-      waits-same n again.group left.group (ap (λ (h : HouseView). h.group) ends.0)
+  -- a draft that the store has kept, or may not have
+  drafted-rest : (draft : Placed) (t : Stage) → draft.node ≡ m → Goes (stage.Drafted draft) t
+      → Ending t → HasRested n again.past left.past
+  drafted-rest draft t here (inl still) ends = absurd (subst Ending still ends)
+  drafted-rest draft t here (inr (r, kept, leads)) ends =
+      kept-rest draft r here kept (subst Ending leads ends)
 
-  answered-wait : (r : Reply Global) → Ending (stage.Answered r) → Waits n again.group left.group
-  answered-wait r ends =
-      waits-same n again.group left.group (ap (λ (h : HouseView). h.group) ends.0)
+  image-rest : (r : Result (Vec Entry Global) StoreFault) → node_of j ≡ m → Ending (image_stage r)
+      → HasRested n again.past left.past
+  image-rest (Ok image) here (r, between, rises, counts, settles, is_said, is_status, is_count) =
+      rests-settled n again between left
+      (counts-rest n _ r again between (apart n m other (node_of j) here) counts)
+      (settled_past _ _ between left settling settles)
+  image-rest (Err fault) here ends = rests-same n again left ends.0
 
-  taken-wait : (p : ℕ) (event : Event) (old : GroupView) (new : GroupView)
-      (r : Result (Taken Global) Refusal) (t : Stage) → p ≡ m → Takes old p event r new
-      → Stores g before (taken_stage r) after t → Ending t → Waits n again.group left.group
-  taken-wait p event old new (Ok (taken.Same answer)) t here takes stores ends =
-      answered-wait _ (subst Ending stores.1 ends)
-  taken-wait p event old new (Err r) t here takes stores ends =
-      answered-wait _ (subst Ending stores.1 ends)
-  taken-wait p event old new (Ok (taken.Store draft)) t here takes (r, kept, keeps, leads) ends =
-      kept-wait draft r (takes.1 ∙ here) kept (subst Ending leads ends)
+  answered-rest : (r : Reply Global) → Ending (stage.Answered r) → HasRested n again.past left.past
+  answered-rest r ends = rests-same n again left ends.0
 
-  restart-wait : (s : Option State) (t : Stage) → node_of j ≡ m
-      → Stores g before (restart_stage s) after t → Ending t → Waits n again.group left.group
-  restart-wait (Some state.Down) t here (r, gives, leads) ends =
-      image-wait r here (subst Ending leads ends)
-  restart-wait (Some state.Ready) t here stores ends = answered-wait _ (subst Ending stores.1 ends)
-  restart-wait (Some state.Storing) t here stores ends =
-      answered-wait _ (subst Ending stores.1 ends)
-  restart-wait None t here stores ends = answered-wait _ (subst Ending stores.1 ends)
+  taken-rest : (p : ℕ) (event : Event) (old new : GroupView) (r : Result (Taken Global) Refusal)
+      (t : Stage) → p ≡ m → Takes old p event r new → Goes (taken_stage r) t → Ending t
+      → HasRested n again.past left.past
+  taken-rest p event old new (Ok (taken.Same answer)) t here takes goes ends =
+      answered-rest _ (subst Ending goes ends)
+  taken-rest p event old new (Err r) t here takes goes ends =
+      answered-rest _ (subst Ending goes ends)
+  taken-rest p event old new (Ok (taken.Store draft)) t here takes goes ends =
+      drafted-rest draft t (takes.1 ∙ here) goes ends
 
-ends-wait : {S A : Type 0} (g : Ghosts S A) (n m : ℕ) → n ≢ m → (before after : S) (j : Job)
-    → runs_at m j ≡ true → (lent given_back again left : HouseView) (at t : Stage)
-    (events count : ℕ) (said : Reply Global) (status : Option Status) (settling : Published)
-    → Begins lent j given_back at events → Stores g before at after t
-    → Ends again j t left said status settling count → Waits n again.group left.group
-ends-wait g n m other before after
-    (job.Submit p client number payload)
-    runs lent given_back again left at t events count said status settling
-    (r, takes, counts, is, rest) stores ends =
-    taken-wait g n m other before after
-    (job.Submit p client number payload) runs again left said status settling count p
-    (Submit p (record { client = client; number = number; payload = payload }))
+  restart-rest : (s : Option State) (t : Stage) → node_of j ≡ m → Goes (restart_stage s) t
+      → Ending t → HasRested n again.past left.past
+  restart-rest (Some state.Down) t here (inl still) ends = absurd (subst Ending still ends)
+  restart-rest (Some state.Down) t here (inr (r, leads)) ends =
+      image-rest r here (subst Ending leads ends)
+  restart-rest (Some state.Ready) t here goes ends = answered-rest _ (subst Ending goes ends)
+  restart-rest (Some state.Storing) t here goes ends = answered-rest _ (subst Ending goes ends)
+  restart-rest None t here goes ends = answered-rest _ (subst Ending goes ends)
+
+  tick-rest : (r : Result (List Carried) Refusal) (t : Stage) → Goes (tick_stage r) t → Ending t
+      → HasRested n again.past left.past
+  tick-rest (Ok packets) t goes ends = answered-rest _ (subst Ending goes ends)
+  tick-rest (Err r) t goes ends = answered-rest _ (subst Ending goes ends)
+
+  crash-rest : (p : ℕ) (r : Result (Unit {0}) Refusal) (t : Stage) → Goes (crash_stage p r) t
+      → Ending t → HasRested n again.past left.past
+  crash-rest p (Ok done) t goes ends = answered-rest _ (subst Ending goes ends)
+  crash-rest p (Err r) t goes ends = answered-rest _ (subst Ending goes ends)
+
+-- the turn's event after its store is none of node n itself
+pub ends-rest : (n m : ℕ) → n ≢ m → (j : Job) → runs_at m j ≡ true
+    → (lent given_back again left : HouseView) (at t : Stage) (events count : ℕ)
+    (said : Reply Global) (status : Option Status) (settling : Published)
+    → Begins lent j given_back at events → Goes at t
+    → Ends again j t left said status settling count → HasRested n again.past left.past
+ends-rest n m other (job.Submit p client number payload) runs lent given_back again left at t events
+    count said status settling (r, takes, counts, is, rest) goes ends =
+    taken-rest n m other (job.Submit p client number payload) again left said status settling count
+    p (Submit p (record { client = client; number = number; payload = payload }))
     lent.group given_back.group r t (eqb-true p m runs) takes
-    (subst (λ (s : Stage). Stores g before s after t) is stores) ends
-ends-wait g n m other before after
-    (job.Arrive p bytes) runs lent given_back again left at t events count said status settling
-    (r, takes, counts, is, rest) stores ends =
-    taken-wait g n m other before after
-    (job.Arrive p bytes) runs again left said status settling count p
+    (subst (λ (s : Stage). Goes s t) is goes) ends
+ends-rest n m other (job.Arrive p bytes) runs lent given_back again left at t events count said
+    status settling (r, takes, counts, is, rest) goes ends =
+    taken-rest n m other (job.Arrive p bytes) again left said status settling count p
     (Arrive p (packet_of bytes.items)) lent.group given_back.group r t (eqb-true p m runs) takes
-    (subst (λ (s : Stage). Stores g before s after t) is stores) ends
-ends-wait g n m other before after
-    (job.Tick p) runs lent given_back again left at t events count said status settling
-    (Ok packets, ticks, counts, is, rest) stores ends =
-    let stored = subst (λ (s : Stage). Stores g before s after t) is stores in
-    answered-wait g n m other before after (job.Tick p) runs again left said status settling count _
-    (subst (λ (s : Stage). Ends again (job.Tick p) s left said status settling count)
-    stored.1 ends)
-ends-wait g n m other before after
-    (job.Tick p) runs lent given_back again left at t events count said status settling
-    (Err r, ticks, counts, is, rest) stores ends =
-    let stored = subst (λ (s : Stage). Stores g before s after t) is stores in
-    answered-wait g n m other before after (job.Tick p) runs again left said status settling count _
-    (subst (λ (s : Stage). Ends again (job.Tick p) s left said status settling count)
-    stored.1 ends)
-ends-wait g n m other before after
-    (job.Crash p) runs lent given_back again left at t events count said status settling
-    (Ok done, crashes, counts, is, rest) stores ends =
-    let stored = subst (λ (s : Stage). Stores g before s after t) is stores in
-    answered-wait g n m other before after
-    (job.Crash p) runs again left said status settling count _
-    (subst (λ (s : Stage). Ends again (job.Crash p) s left said status settling count)
-    stored.1 ends)
-ends-wait g n m other before after
-    (job.Crash p) runs lent given_back again left at t events count said status settling
-    (Err r, crashes, counts, is, rest) stores ends =
-    let stored = subst (λ (s : Stage). Stores g before s after t) is stores in
-    answered-wait g n m other before after
-    (job.Crash p) runs again left said status settling count _
-    (subst (λ (s : Stage). Ends again (job.Crash p) s left said status settling count)
-    stored.1 ends)
-ends-wait g n m other before after
-    (job.Restart p) runs lent given_back again left at t events count said status settling
-    (s, answers, same, is, rest) stores ends =
-    restart-wait g n m other before after
-    (job.Restart p) runs again left said status settling count s t (eqb-true p m runs)
-    (subst (λ (u : Stage). Stores g before u after t) is stores) ends
-ends-wait g n m other before after
-    (job.Status p) runs lent given_back again left at t events count said status settling
-    (same, is, rest) stores ends =
-    let stored = subst (λ (s : Stage). Stores g before s after t) is stores in
-    waits-same n again.group left.group
-    (ap (λ (h : HouseView). h.group)
-    (subst (λ (s : Stage). Ends again (job.Status p) s left said status settling count)
-    stored.1 ends).0)
+    (subst (λ (s : Stage). Goes s t) is goes) ends
+ends-rest n m other (job.Tick p) runs lent given_back again left at t events count said status
+    settling (r, ticks, counts, is, rest) goes ends =
+    tick-rest n m other (job.Tick p) again left said status settling count r t
+    (subst (λ (s : Stage). Goes s t) is goes) ends
+ends-rest n m other (job.Crash p) runs lent given_back again left at t events count said status
+    settling (r, crashes, counts, is, rest) goes ends =
+    crash-rest n m other (job.Crash p) again left said status settling count p r t
+    (subst (λ (s : Stage). Goes s t) is goes) ends
+ends-rest n m other (job.Restart p) runs lent given_back again left at t events count said status
+    settling (s, answers, same, is, rest) goes ends =
+    restart-rest n m other (job.Restart p) again left said status settling count s t
+    (eqb-true p m runs) (subst (λ (u : Stage). Goes u t) is goes) ends
+ends-rest n m other (job.Status p) runs lent given_back again left at t events count said status
+    settling (same, is, rest) goes ends =
+    let asking : t ≡ stage.Asking = subst (λ (s : Stage). Goes s t) is goes in
+    rests-same n again left
+    (subst (λ (s : Stage). Ends again (job.Status p) s left said status settling count) asking
+    ends).0
 
--- While a worker holds the House in its turn, nothing happens to other nodes, except that they may
--- crash.
-pub others-wait : {S A : Type 0} (g : Ghosts S A) (opened : GroupView) (n m : ℕ) (j : Job)
+-- While a worker holds the House in its turn, other nodes rest.
+pub others-rest : {S A : Type 0} (g : Ghosts S A) (opened : GroupView) (n m : ℕ) (j : Job)
     (before after : S) (came : FinishedView) (turn : IsTurn g opened j before after came)
     → runs_at m j ≡ true → n ≢ m
-    → Waits n turn.lent.group turn.given_back.group × Waits n turn.lent_again.group turn.left.group
-others-wait g opened n m j before after came turn runs other = (
-  begins-wait n m other j turn.lent turn.given_back turn.at turn.events runs turn.begins,
-  ends-wait g n m other before after j runs turn.lent turn.given_back turn.lent_again turn.left
+    → HasRested n turn.lent.past turn.given_back.past
+    × HasRested n turn.lent_again.past turn.left.past
+others-rest g opened n m j before after came turn runs other = (
+  begins-rest n m other j turn.lent turn.given_back turn.at turn.events runs turn.begins,
+  ends-rest n m other j runs turn.lent turn.given_back turn.lent_again turn.left
       turn.at turn.new turn.events (came.events - turn.events)
-      came.reply came.status came.settling turn.begins turn.stores turn.finishes,
+      came.reply came.status came.settling turn.begins
+      (goes_on g before after turn.at turn.at turn.new (goes_still turn.at) turn.stores)
+      turn.finishes,
 )
 
--- ---- a stop while the node waits
+-- ---- the store of a node that rests
 
--- while a node waits, a stop leaves in its store what it may leave of the node
-pub waited-leaves : {S A : Type 0} (g : Ghosts S A) (n : ℕ) (earlier later : GroupView) (store : S)
-    → LeavesAt g n earlier store → Waits n earlier later → LeavesAt g n later store
-waited-leaves g n earlier later store h waits =
-    record {
-      world = then.world;
-      shows = then.shows;
-      left =
-          λ clean. leaves-stay g (h.world.node n) (then.world.node n) store
-          (waited-stays n h.world later then) (h.left clean);
-    }
-  where
-    then : HasWaited n h.world later
-    then = waits h.world h.shows
+-- the node after the later events
+rested-node : (n : ℕ) (earlier later : List Event) (start : World) → HasRested n earlier later
+    → Stays ((after start earlier).node n) ((after start later).node n)
+rested-node n earlier later start h =
+    subst (λ (w : World). Stays ((after start earlier).node n) (w.node n))
+    (sym (ap (after start) h.later_is ∙ after_both start earlier h.between))
+    (waited-stays n (after start earlier) (after (after start earlier) h.between)
+    (elsewhere-waited n h.between (after start earlier) h.elsewhere))
+
+module _ {S A : Type 0} (g : Ghosts S A) (start : World) (n : ℕ)
+    (earlier later : List Event) (store : S) (rested : HasRested n earlier later) where
+  -- while a node rests, its store matches it
+  pub rested-store : IsStoreAfter g start earlier n store → IsStoreAfter g start later n store
+  rested-store h =
+      let kept =
+      stays g ((after start earlier).node n) ((after start later).node n) store
+      (rested-node n earlier later start rested) (h.contents, h.lasting) in
+      record { contents = kept.0; lasting = kept.1 }
+
+  -- while a node rests, a stop leaves in its store what it may leave of the node
+  pub rested-leaves : LeavesAfter g start earlier n store → LeavesAfter g start later n store
+  rested-leaves h clean =
+      leaves-stay g ((after start earlier).node n) ((after start later).node n) store
+      (rested-node n earlier later start rested) (h clean)
 
 -- ---- a stop of all nodes
 

@@ -1,21 +1,27 @@
 -- What workers do job after job, and stores in their order, as loops take them from one list and put
 -- them into another.
 use Rattle.std.proofs.Common.{◌≡◌, ◌∙◌, ◌++◌, IfSome, List, [], ◌∷◌, None, Ok, Err, Option, Result}
-use Rattle.std.proofs.Common.{Some, append_assoc, ap, inl, inr, length, refl, sym, map, reverse, ℕ}
+use Rattle.std.proofs.Common.{Some, append_assoc, ap, inl, inr, length, refl, subst, sym, map}
+use Rattle.std.proofs.Common.{reverse, ℕ}
 use Rattle.std.proofs.Common.{◌+◌, zero, suc}
 use Rattle.std.proofs.Math.Logic.{∥∥₁_elim}
 use Rattle.std.proofs.Props.{props}
 use Rattle.std.proofs.lemmas.List.{reverse-append, map_push}
 use Rattle.urb_stable.specs.declared.stable.Stable.{Ghosts}
-use Rattle.urb_group.specs.GroupViews.{GroupView}
+use Rattle.urb_group.specs.GroupViews.{GroupView, Shows}
+use Rattle.urb_group.specs.World.{World}
+use Rattle.urb_group.specs.Step.{Event}
 use Rattle.urb_worker.specs.Acts.{Act, LetsOut}
+use Rattle.urb_worker.specs.Counting.{TallyView}
+use Rattle.urb_worker.specs.Desks.{events_until}
 use Rattle.urb_worker.specs.Jobs.{runs_at}
+use Rattle.urb_worker.specs.NodeStores.{IsStoreAfter, IsStoreSince}
 use Rattle.urb_worker.specs.ServedStores.{AreServed, Continues, HasServed, IsLeftOf, Rests}
 use Rattle.urb_worker.specs.ServedStores.{Serves, Works, numbers_from}
 use Rattle.urb_worker.specs.Views.{FinishedView}
 use Rattle.urb_worker.specs.WholeTurns.{Does}
 use Rattle.urb_worker.specs.declared.job.Job.{Job}
-use Rattle.urb_worker.specs.internal.ServedStores.{AllThere, MayWork}
+use Rattle.urb_worker.specs.internal.ServedStores.{AllKeepUp, AllThere, KeepsUp, MayWork}
 
 module _ {S A : Type 0} (g : Ghosts S A) (opened : GroupView) (n : ℕ) where
   -- a job was done, and what its result says was let out
@@ -106,6 +112,42 @@ module _ {S A : Type 0} (g : Ghosts S A) (opened : GroupView) where
   one_left h f ws w lasts new last so_far it is =
       rw (is, map_push f ws w, map_push h ws w)
       (one_more (map h ws) (map f ws) lasts (h w) (f w) last so_far it)
+
+module _ {S A : Type 0} (g : Ghosts S A) (opened : GroupView) where
+  -- a worker whose tally had no loan yet
+  pub keeps_up : (n : ℕ) (first last : S) (before after : TallyView)
+      → events_until before.last ≡ []
+      → ((start : World) → Shows opened start → IsStoreSince g start before.last n first
+      → IsStoreSince g start after.last n last)
+      → KeepsUp g opened n first last after
+  keeps_up n first last before after fresh keeps start opening h =
+      keeps start opening (at before.last fresh)
+    where
+      at : (o : Option (List Event)) → events_until o ≡ [] → IsStoreSince g start o n first
+      at None e = tt
+      at (Some end) e = subst (λ (l : List Event). IsStoreAfter g start l n first) (sym e) h
+
+  -- one more worker
+  pub one_more_keeps_up : (nodes : List ℕ) (firsts lasts : List S) (tallies : List TallyView) (n : ℕ)
+      (first last : S) (tally : TallyView) → AllKeepUp g opened nodes firsts lasts tallies
+      → KeepsUp g opened n first last tally
+      → AllKeepUp g opened (nodes ++ n ∷ []) (firsts ++ first ∷ []) (lasts ++ last ∷ [])
+      (tallies ++ tally ∷ [])
+  one_more_keeps_up [] [] [] [] n first last tally so_far it = (it, tt)
+  one_more_keeps_up (m ∷ ms) (a ∷ xs) (b ∷ ys) (t ∷ ts) n first last tally so_far it =
+      (so_far.0, one_more_keeps_up ms xs ys ts n first last tally so_far.1 it)
+  one_more_keeps_up _ _ _ _ n first last tally so_far it = absurd so_far
+
+  -- one more store is left, with its tally
+  pub one_left_keeps_up : {W : Type 0} (h : W → ℕ) (f : W → S) (ws : List W) (w : W)
+      (lasts new : List S) (last : S) (tallies all : List TallyView) (tally : TallyView)
+      → AllKeepUp g opened (map h ws) (map f ws) lasts tallies
+      → KeepsUp g opened (h w) (f w) last tally → new ≡ lasts ++ last ∷ []
+      → all ≡ tallies ++ tally ∷ []
+      → AllKeepUp g opened (map h (ws ++ w ∷ [])) (map f (ws ++ w ∷ [])) new all
+  one_left_keeps_up h f ws w lasts new last tallies all tally so_far it is are =
+      rw (is, are, map_push f ws w, map_push h ws w)
+      (one_more_keeps_up (map h ws) (map f ws) lasts tallies (h w) (f w) last tally so_far it)
 
 -- the element at the end of a list comes first in the reversed list
 pub reverse_push : {X Y : Type 0} (f : X → Y) (xs : List X) (x : X)

@@ -3,17 +3,20 @@ use Rattle.std.proofs.Common.{Bool, Err, IfSome, Ok, Option, false, inl, inr, re
 use Rattle.std.proofs.Common.{true, ℕ, ◌-◌, ◌≡◌}
 use Rattle.std.proofs.lemmas.Bool.{false≢true}
 use Rattle.std.specs.declared.alloc.Global.{Global}
-use Rattle.urb_group.specs.GroupViews.{GroupView, IsSound}
+use Rattle.urb_group.specs.GroupViews.{GroupView, IsSound, Shows}
+use Rattle.urb_group.specs.World.{World}
 use Rattle.urb_group.specs.declared.reply.Reply.{Reply}
 use Rattle.urb_show.specs.Houses.{HouseView}
 use Rattle.urb_show.specs.Pasts.{IsLedTo}
 use Rattle.urb_show.specs.declared.status.Status.{Status}
 use Rattle.urb_stable.specs.PlacedRecords.{Placed}
 use Rattle.urb_stable.specs.declared.stable.Stable.{Ghosts}
-use Rattle.urb_worker.proofs.StoreKeeping.{turn-keeps, turn-leaves}
+use Rattle.urb_worker.proofs.StoreKeeping.{from-world, left-from, to-world, turn-keeps, turn-leaves}
+use Rattle.urb_worker.proofs.WaitingNodes.{rested-waits}
 use Rattle.urb_worker.specs.Jobs.{runs_at}
 use Rattle.urb_worker.proofs.TurnLoans.{loans_of}
 use Rattle.urb_worker.specs.Loans.{AreLoans, IsLoan, LoanView, LoansView}
+use Rattle.urb_worker.specs.NodeStores.{HasRested, IsStoreAfter}
 use Rattle.urb_worker.specs.Settlings.{Published}
 use Rattle.urb_worker.specs.Stages.{is_stored}
 use Rattle.urb_worker.specs.Turns.{Begins, CameOf, Ends, Finishes, Goes, HasBegun, Stores}
@@ -26,7 +29,7 @@ use Rattle.urb_worker.specs.declared.turn_stages.Stage.TheVariants as stage
 -- ---- stages
 
 -- a turn that has just begun
-goes_still : (at : Stage) → Goes at at
+pub goes_still : (at : Stage) → Goes at at
 goes_still (stage.Drafted draft) = inl refl
 goes_still stage.Retrieving = inl refl
 goes_still (stage.Kept receipt) = refl
@@ -66,7 +69,7 @@ module _ {S A : Type 0} (g : Ghosts S A) (before after : S) where
       inr (Err fault, (subst (λ (u : Stage). Stores g before u after t) e stores).1)
 
   -- the store does its part
-  goes_on : (at s t : Stage) → Goes at s → Stores g before s after t → Goes at t
+  pub goes_on : (at s t : Stage) → Goes at s → Stores g before s after t → Goes at t
   goes_on (stage.Drafted draft) s t goes stores = from_draft draft s t goes stores
   goes_on stage.Retrieving s t goes stores = from_retrieving s t goes stores
   goes_on (stage.Kept receipt) s t goes stores =
@@ -155,14 +158,19 @@ module _ {S A : Type 0} (g : Ghosts S A) (opened : GroupView) (n : ℕ) where
                   IfSome done.loans (λ l. AreLoans o again left l)) loan loans);
             };
         sound = sound;
-        keeps = λ is waits.
-            turn-keeps g n before after lent given_back again left begun.stage stored.stage
+        keeps = λ start opening is rested.
+            from-world g start n left after
+            (turn-keeps g start n before after lent given_back again left begun.stage stored.stage
             begun.events done.reply done.status done.settling
-            (done.events - begun.events) j runs begins stores finishes is waits;
-        leaves = λ is.
-            turn-leaves g n before after lent given_back again left begun.stage stored.stage
-            begun.events done.reply done.status done.settling
-            (done.events - begun.events) j runs begins stores is;
+            (done.events - begun.events) j runs begins stores finishes
+            (to-world g start n lent before (leads start opening) is)
+            (rested-waits opened start n given_back again opening rested leads_again));
+        leaves = λ start opening is.
+            left-from g start n given_back after
+            (turn-leaves g start n before after lent given_back again left begun.stage
+            stored.stage begun.events done.reply done.status done.settling
+            (done.events - begun.events) j runs begins stores
+            (to-world g start n lent before (leads start opening) is));
       }
     where
       finishes : Ends again j stored.stage left done.reply done.status done.settling
@@ -172,3 +180,21 @@ module _ {S A : Type 0} (g : Ghosts S A) (opened : GroupView) (n : ℕ) where
           (done.events - k)) count
           (subst (λ (i : Job). Ends again i stored.stage left done.reply done.status done.settling
           (done.events - stored.events)) same ends)
+
+  -- After a whole turn the store matches its node, if the node rested while the store worked.
+  pub whole_keeps : (j : Job) (before after : S) (done : FinishedView)
+      (lent given_back again left : HouseView) (begun stored : TurnView) → runs_at n j ≡ true
+      → stored.job ≡ j → stored.events ≡ begun.events → stored.loan ≡ begun.loan
+      → IsSound left.group → IsLedTo opened lent.past lent.group
+      → IsLedTo opened again.past again.group
+      → IfSome begun.loan (λ l. IsLoan lent given_back l)
+      → IfSome done.loans (λ l. AreLoans stored.loan again left l)
+      → Begins lent j given_back begun.stage begun.events
+      → Stores g before begun.stage after stored.stage → Finishes again stored left done
+      → (start : World) → Shows opened start → IsStoreAfter g start lent.past n before
+      → HasRested n given_back.past again.past → IsStoreAfter g start left.past n after
+  unfolding whole
+  whole_keeps j before after done lent given_back again left begun stored runs same count loan sound
+      leads leads_again first loans begins stores ends =
+      (whole j before after done lent given_back again left begun stored runs same count loan sound
+      leads leads_again first loans begins stores ends).keeps

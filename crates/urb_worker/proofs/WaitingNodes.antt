@@ -1,14 +1,16 @@
 -- A node to which nothing happened except a crash; and what an event says about a node that holds a
 -- draft or is down.
-use Rattle.std.proofs.Common.{Bool, Option, Some, ap, eq-eqb, eqb-true, false, inl, inr, length}
-use Rattle.std.proofs.Common.{refl, subst, suc, sym, true, ℕ, ◌&&◌, ◌==◌, ◌∙◌, ◌≡◌, ◌⊎◌, ⊎_elim}
-use Rattle.std.proofs.lemmas.Bool.{and_from, cond-false, cond-true, cond_both}
+use Rattle.std.proofs.Common.{Bool, List, Option, Some, [], ap, eq-eqb, eqb-true, false, inl, inr}
+use Rattle.std.proofs.Common.{length, refl, subst, suc, sym, true, ℕ, ◌&&◌, ◌++◌, ◌==◌, ◌∙◌, ◌∷◌, ◌≡◌}
+use Rattle.std.proofs.Common.{◌⊎◌, ⊎_elim}
+use Rattle.std.proofs.lemmas.Bool.{and_from, cond-false, cond-true, cond_both, false≢true}
 use Rattle.urb_group.proofs.steps.DraftsInSteps.{event_node, step-elsewhere, step-size}
 use Rattle.urb_group.proofs.steps.OneNodeStep.{updated-at}
 use Rattle.urb_group.proofs.stops.StockedSteps.{Stays, quiet-stays}
-use Rattle.urb_group.specs.GroupCalls.{Steps}
-use Rattle.urb_group.specs.GroupViews.{GroupView}
-use Rattle.urb_group.specs.Step.{Commit, Crash, Event, Fail, at_node, step, world_after}
+use Rattle.urb_group.specs.GroupViews.{GroupView, Shows}
+use Rattle.urb_group.specs.RecoveryPlans.{after}
+use Rattle.urb_group.specs.Step.{Arrive, Commit, Crash, Event, Fail, Restart, Submit, Tick, at_node}
+use Rattle.urb_group.specs.Step.{run, step, world_after}
 use Rattle.urb_group.specs.World.{World}
 use Rattle.urb_names.specs.LabelsAndContents.{Limits}
 use Rattle.urb_names.specs.Nodes.{is_node}
@@ -20,8 +22,11 @@ use Rattle.urb_node.specs.Steps.{commits, crashes, done, doubt, fails, goes_down
 use Rattle.urb_node.specs.Steps.{keeps_record, next_position, refuses, same_record}
 use Rattle.urb_node.specs.declared.cause.Cause.{Cause}
 use Rattle.urb_stable.specs.Entries.{Entry}
+use Rattle.urb_show.proofs.PastEvents.{after_both}
+use Rattle.urb_show.specs.Houses.{HouseView}
+use Rattle.urb_show.specs.Pasts.{IsLedTo}
 use Rattle.urb_stable.specs.PlacedRecords.{Placed}
-use Rattle.urb_worker.specs.WholeTurns.{HasWaited, Waits}
+use Rattle.urb_worker.specs.NodeStores.{AreElsewhere, HasRested, is_own}
 
 -- ---- what one event says about its node
 
@@ -127,48 +132,48 @@ crash-down w n down =
 
 -- ---- a node that waited
 
+-- from one world to the next nothing happened to node n, except that it may have crashed
+pub record Waited (n : ℕ) (w v : World) : Type 0 where
+  pub size : v.size ≡ w.size
+  pub node : (v.node n ≡ w.node n) ⊎ (v.node n ≡ (step w (Crash n)).1.node n)
+
 -- a node stays as it is
 pub unchanged : (node : Node) → Stays node node
 unchanged node = record { records = refl; doubt = inr refl; up = λ e. e }
 
 -- a node that waited has the same records, and is up only if it was
-pub waited-stays : (n : ℕ) (w : World) (later : GroupView) (h : HasWaited n w later)
-    → Stays (w.node n) (h.world.node n)
-waited-stays n w later h =
+pub waited-stays : (n : ℕ) (w v : World) → Waited n w v → Stays (w.node n) (v.node n)
+waited-stays n w v h =
     ⊎_elim (λ e. subst (λ (node : Node). Stays (w.node n) node) (sym e) (unchanged (w.node n)))
     (λ e. subst (λ (node : Node). Stays (w.node n) node) (sym e) (quiet-stays w (Crash n) tt n))
     h.node
 
 -- a node of the group is still one after it waited
-pub waited-there : (n : ℕ) (w : World) (later : GroupView) (h : HasWaited n w later)
-    → is_node w.size.n n ≡ true → is_node h.world.size.n n ≡ true
-waited-there n w later h there = subst (λ (l : Limits). is_node l.n n ≡ true) (sym h.size) there
+pub waited-there : (n : ℕ) (w v : World) → Waited n w v → is_node w.size.n n ≡ true
+    → is_node v.size.n n ≡ true
+waited-there n w v h there = subst (λ (l : Limits). is_node l.n n ≡ true) (sym h.size) there
 
 -- a node that held a draft still holds it, or went down with it
-pub waited-held : (n : ℕ) (w : World) (later : GroupView) (draft : Placed) (h : HasWaited n w later)
-    → HoldsAt w n draft → HoldsAt h.world n draft ⊎ FellWith (w.node n) (h.world.node n) draft
-waited-held n w later draft h held =
+pub waited-held : (n : ℕ) (w v : World) (draft : Placed) → Waited n w v → HoldsAt w n draft
+    → HoldsAt v n draft ⊎ FellWith (w.node n) (v.node n) draft
+waited-held n w v draft h held =
     ⊎_elim (λ e. inl (still e)) (λ e.
     inr (subst (λ (node : Node). FellWith (w.node n) node draft) (sym e)
     (crash-held w n draft held))) h.node
   where
-    still : h.world.node n ≡ w.node n → HoldsAt h.world n draft
+    still : v.node n ≡ w.node n → HoldsAt v n draft
     still e =
         record {
           cause = held.cause;
-          there = waited-there n w later h held.there;
+          there = waited-there n w v h held.there;
           storing = ap (λ (node : Node). node.state) e ∙ held.storing;
           position = held.position ∙ ap (λ (node : Node). suc (length node.records)) (sym e);
         }
 
 -- a node that was down is unchanged
-pub waited-down : (n : ℕ) (w : World) (later : GroupView) (h : HasWaited n w later)
-    → is_down (w.node n).state ≡ true → h.world.node n ≡ w.node n
-waited-down n w later h down = ⊎_elim (λ e. e) (λ e. e ∙ crash-down w n down) h.node
-
--- a node waits from a moment to the same moment, and waiting goes on
-pub waits-none : (n : ℕ) (group : GroupView) → Waits n group group
-waits-none n group w shows = record { world = w; shows = shows; size = refl; node = inl refl }
+pub waited-down : (n : ℕ) (w v : World) → Waited n w v → is_down (w.node n).state ≡ true
+    → v.node n ≡ w.node n
+waited-down n w v h down = ⊎_elim (λ e. e) (λ e. e ∙ crash-down w n down) h.node
 
 -- two crashes have the effect of one
 crashed-twice : (n : ℕ) (w v : World) → v.size ≡ w.size → v.node n ≡ (step w (Crash n)).1.node n
@@ -224,69 +229,107 @@ crash-alike n v w size e = at (is_node w.size.n n) refl
         (Refused refusal.BadNode, w) none)))
 
 -- a node that waited twice, one time after the other, waited all along
-pub waits-on : (n : ℕ) (first second third : GroupView) → Waits n first second
-    → Waits n second third → Waits n first third
-waits-on n first second third earlier later w shows =
-    record {
-      world = two.world;
-      shows = two.shows;
-      size = two.size ∙ one.size;
-      node =
-          ⊎_elim same crashed two.node;
-    }
+pub waited-on : (n : ℕ) (w v u : World) → Waited n w v → Waited n v u → Waited n w u
+waited-on n w v u one two =
+    record { size = two.size ∙ one.size; node = ⊎_elim same crashed two.node }
   where
-    one : HasWaited n w second
-    one = earlier w shows
-
-    two : HasWaited n one.world third
-    two = later one.world one.shows
-
-    same : two.world.node n ≡ one.world.node n
-        → (two.world.node n ≡ w.node n) ⊎ (two.world.node n ≡ (step w (Crash n)).1.node n)
+    same : u.node n ≡ v.node n → (u.node n ≡ w.node n) ⊎ (u.node n ≡ (step w (Crash n)).1.node n)
     same e = ⊎_elim (λ f. inl (e ∙ f)) (λ f. inr (e ∙ f)) one.node
 
-    crashed : two.world.node n ≡ (step one.world (Crash n)).1.node n
-        → (two.world.node n ≡ w.node n) ⊎ (two.world.node n ≡ (step w (Crash n)).1.node n)
+    crashed : u.node n ≡ (step v (Crash n)).1.node n
+        → (u.node n ≡ w.node n) ⊎ (u.node n ≡ (step w (Crash n)).1.node n)
     crashed e =
-        ⊎_elim (λ f. inr (e ∙ crash-as f))
-        (λ f. inr (e ∙ crashed-twice n w one.world one.size f)) one.node
-      where
-        crash-as : one.world.node n ≡ w.node n
-            → (step one.world (Crash n)).1.node n ≡ (step w (Crash n)).1.node n
-        crash-as f = crash-alike n one.world w one.size f
+        ⊎_elim (λ f. inr (e ∙ crash-alike n v w one.size f))
+        (λ f. inr (e ∙ crashed-twice n w v one.size f)) one.node
 
--- an event of another node, and a crash of any node
-pub waits-event : (n : ℕ) (old new : GroupView) (event : Event) (IsTold : Reply → Type 0)
-    → (n == event_node event) ≡ false → Steps old event IsTold new → Waits n old new
-waits-event n old new event IsTold apart steps w shows =
+-- ---- events elsewhere
+
+-- a number that differs from another, compared the other way round
+turned : (n p : ℕ) → (p == n) ≡ false → (n == p) ≡ false
+turned n p e = at (n == p) refl
+  where
+    at : (b : Bool) → (n == p) ≡ b → (n == p) ≡ false
+    at false f = f
+    at true f =
+        let same : n ≡ p = eqb-true n p f in
+        absurd (false≢true (sym e ∙ eq-eqb p n (sym same)))
+
+-- an event of another node
+other-waited : (n : ℕ) (w : World) (event : Event) → (event_node event == n) ≡ false
+    → Waited n w (step w event).1
+other-waited n w event apart =
     record {
-      world = (step w event).1;
-      shows = (steps w shows).shows;
-      size =
-          step-size w event;
-      node = inl (step-elsewhere w event n apart);
+      size = step-size w event;
+      node = inl (step-elsewhere w event n (turned n (event_node event) apart));
     }
 
--- each node waits while any node crashes
-pub waits-crash : (n p : ℕ) (old new : GroupView) (IsTold : Reply → Type 0)
-    → Steps old (Crash p) IsTold new → Waits n old new
-waits-crash n p old new IsTold steps = at (n == p) refl
+-- a crash of any node
+crash-waited : (n p : ℕ) (w : World) → Waited n w (step w (Crash p)).1
+crash-waited n p w = at (p == n) refl
   where
-    here : (n == p) ≡ true → Waits n old new
-    here same w shows =
+    at : (b : Bool) → (p == n) ≡ b → Waited n w (step w (Crash p)).1
+    at false apart = other-waited n w (Crash p) apart
+    at true same =
+        let here : p ≡ n = eqb-true p n same in
         record {
-          world = (step w (Crash p)).1;
-          shows = (steps w shows).shows;
           size = step-size w (Crash p);
           node =
               inr (subst (λ (i : ℕ). (step w (Crash i)).1.node n ≡ (step w (Crash n)).1.node n)
-              (eqb-true n p same) refl);
+              (sym here) refl);
         }
 
-    at : (b : Bool) → (n == p) ≡ b → Waits n old new
-    at false apart = waits-event n old new (Crash p) IsTold apart steps
-    at true same = here same
+event-waited : (n : ℕ) (w : World) (event : Event) → is_own n event ≡ false
+    → Waited n w (step w event).1
+event-waited n w (Crash p) h = crash-waited n p w
+event-waited n w (Submit p m) h = other-waited n w (Submit p m) h
+event-waited n w (Arrive p bytes) h = other-waited n w (Arrive p bytes) h
+event-waited n w (Tick p) h = other-waited n w (Tick p) h
+event-waited n w (Commit p position entry) h = other-waited n w (Commit p position entry) h
+event-waited n w (Fail p) h = other-waited n w (Fail p) h
+event-waited n w (Restart p image) h = other-waited n w (Restart p image) h
 
--- a node waits from a group to an equal group
-pub waits-same : (n : ℕ) (old new : GroupView) → new ≡ old → Waits n old new
-waits-same n old new e = subst (λ (group : GroupView). Waits n old group) (sym e) (waits-none n old)
+-- a node waits while all events are elsewhere
+pub elsewhere-waited : (n : ℕ) (events : List Event) (w : World) → AreElsewhere n events
+    → Waited n w (after w events)
+unfolding run
+elsewhere-waited n [] w h = record { size = refl; node = inl refl }
+elsewhere-waited n (event ∷ events) w h =
+    waited-on n w (step w event).1 (after (step w event).1 events) (event-waited n w event h.0)
+    (elsewhere-waited n events (step w event).1 h.1)
+
+-- ---- a world of a house
+
+-- The past of the house leads from the start to this world, and the group of the house shows it.
+pub record IsWorldOf (start : World) (house : HouseView) (w : World) : Type 0 where
+  pub led : w ≡ after start house.past
+  pub shows : Shows house.group w
+
+-- a world of the later house, in which node n has waited
+pub record HasWaited (start : World) (n : ℕ) (w : World) (later : HouseView) : Type 0 where
+  pub world : World
+  pub ties : IsWorldOf start later world
+  pub waited : Waited n w world
+
+-- from one moment to another nothing happened to node n, except that it may have crashed
+abbrev pub Waits : World → ℕ → HouseView → HouseView → Type 0
+Waits start n earlier later =
+    (w : World) → IsWorldOf start earlier w → HasWaited start n w later
+
+-- a node waits from one moment to another if it rested
+pub rested-waits : (opened : GroupView) (start : World) (n : ℕ) (earlier later : HouseView)
+    → Shows opened start → HasRested n earlier.past later.past
+    → IsLedTo opened later.past later.group → Waits start n earlier later
+rested-waits opened start n earlier later opening rested leads w h =
+    record {
+      world = after start later.past;
+      ties = record { led = refl; shows = leads start opening };
+      waited =
+          subst (λ (v : World). Waited n w v) (sym same)
+          (elsewhere-waited n rested.between w rested.elsewhere);
+    }
+  where
+    same : after start later.past ≡ after w rested.between
+    same =
+        ap (after start) rested.later_is
+        ∙ (after_both start earlier.past rested.between
+        ∙ ap (λ (v : World). after v rested.between) (sym h.led))

@@ -8,6 +8,8 @@ pub mod Turns
 pub mod Changes
 pub mod ClientDesks
 pub mod ClientLimits
+pub mod NodeStores
+pub mod LastLoans
 pub mod WholeTurns
 pub mod Acts
 pub mod ServedStores

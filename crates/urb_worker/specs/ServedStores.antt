@@ -1,9 +1,13 @@
 -- What workers do, job after job: to their nodes' stores, and outside; and the order of the stores.
-use Rattle.std.specs.Prelude.{List, [], zero, suc, ℕ, ◌+◌, ◌∷◌}
+use Rattle.std.specs.Prelude.{List, [], length, suc, zero, ℕ, ◌+◌, ◌∷◌, ◌≡◌}
 use Rattle.urb_stable.specs.declared.stable.Stable.{Ghosts}
-use Rattle.urb_group.specs.GroupViews.{GroupView}
+use Rattle.urb_group.specs.GroupViews.{GroupView, IsSound, Shows}
+use Rattle.urb_group.specs.Step.{Event}
+use Rattle.urb_group.specs.World.{World}
+use Rattle.urb_show.specs.Pasts.{IsLedTo}
 use Rattle.urb_worker.specs.Acts.{Act, LetsOut}
 use Rattle.urb_worker.specs.Jobs.{runs_at}
+use Rattle.urb_worker.specs.NodeStores.{AreStoresAfter}
 use Rattle.urb_worker.specs.Views.{FinishedView}
 use Rattle.urb_worker.specs.WholeTurns.{Does}
 use Rattle.urb_worker.specs.declared.job.Job.{Job}
@@ -38,6 +42,18 @@ module _ {S A : Type 0} (g : Ghosts S A) (opened : GroupView) where
   -- the last store is the first one after some number of jobs of node n
   abbrev pub IsLeftOf : ℕ → S → S → Type 0
   IsLeftOf n first last = ∥ ((acts : List Act) × Serves g opened n first last [] acts) ∥₁
+
+  -- A run came to its end. Its history led from the opened group to this one. Each store matches its
+  -- node after the history, provided that each matched its node at the opening.
+  pub record EndsWhole (firsts lasts : List S) : Type 0 where
+    pub history : List Event
+    pub group : GroupView
+    pub sound : IsSound group
+    pub nodes : length group.nodes ≡ opened.size.n
+    pub size : group.size.n ≡ opened.size.n
+    pub leads : IsLedTo opened history group
+    pub stores : (start : World) → Shows opened start → AreStoresAfter g start [] 1 firsts
+        → AreStoresAfter g start history 1 lasts
 
   -- each store of the last list is the store of the first list at the same place, after some number
   -- of jobs of its own node

@@ -1,15 +1,14 @@
 -- What a worker does with a job: the whole of its turn, with the store of its node.
-use Rattle.std.specs.Prelude.{Bool, IfSome, None, false, true, ℕ, ◌-◌, ◌≡◌, ◌⊎◌}
+use Rattle.std.specs.Prelude.{Bool, IfSome, None, false, true, ℕ, ◌-◌, ◌≡◌}
 use Rattle.urb_names.specs.declared.refusal.Refusal.TheVariants as refusal
 use Rattle.urb_stable.specs.declared.stable.Stable.{Ghosts}
 use Rattle.urb_group.specs.GroupViews.{GroupView, IsSound, Shows}
-use Rattle.urb_group.specs.Step.{Crash, step}
-use Rattle.urb_group.specs.StoreContents.{IsLasting, IsStoreOf, LeavesOf}
 use Rattle.urb_group.specs.World.{World}
 use Rattle.urb_group.specs.declared.reply.Reply.TheVariants as reply
 use Rattle.urb_show.specs.Houses.{HouseView}
 use Rattle.urb_show.specs.Pasts.{IsLedTo}
 use Rattle.urb_worker.specs.Loans.{AreLoansOf}
+use Rattle.urb_worker.specs.NodeStores.{HasRested, IsStoreAfter, LeavesAfter}
 use Rattle.urb_worker.specs.Settlings.{NothingNew}
 use Rattle.urb_worker.specs.Turns.{Begins, Ends, Stores}
 use Rattle.urb_worker.specs.Views.{FinishedView}
@@ -29,38 +28,7 @@ misrouted job =
       loans = None;
     }
 
--- ---- a node and its store
-
--- The later group shows a world in which nothing happened to node n of this world, except that it
--- may have crashed.
-pub record HasWaited (n : ℕ) (w : World) (later : GroupView) : Type 0 where
-  pub world : World
-  pub shows : Shows later world
-  pub size : world.size ≡ w.size
-  pub node : (world.node n ≡ w.node n) ⊎ (world.node n ≡ (step w (Crash n)).1.node n)
-
--- from one moment to another nothing happened to node n, except that it may have crashed
-abbrev pub Waits : ℕ → GroupView → GroupView → Type 0
-Waits n earlier later = (w : World) → Shows earlier w → HasWaited n w later
-
 module _ {S A : Type 0} (g : Ghosts S A) where
-  -- The store matches the group's node n: it holds the node's records, or these and the held or the
-  -- doubtful one. A stop leaves nothing else in it.
-  pub record IsStoreAt (n : ℕ) (group : GroupView) (store : S) : Type 0 where
-    pub world : World
-    pub shows : Shows group world
-    pub contents : IsStoreOf g (world.node n) store
-    pub lasting : IsLasting g (world.node n) store
-
-  -- A stop at this moment leaves in the store the records of the group's node n, or these and the
-  -- held or the doubtful one.
-  pub record LeavesAt (n : ℕ) (group : GroupView) (store : S) : Type 0 where
-    pub world : World
-    pub shows : Shows group world
-    pub left : g.is_clean store → LeavesOf g (world.node n) store
-
-  -- ---- a turn
-
   -- The whole turn of a job. The worker locked the House and unlocked it. The store did its part.
   -- The worker locked the House again, and left it in this state. Each time, the past of the House
   -- led to its group. If the House gave its moments, these are the turn's loans.
@@ -81,16 +49,20 @@ module _ {S A : Type 0} (g : Ghosts S A) where
     pub leads_again : IsLedTo opened lent_again.past lent_again.group
     pub loans : IfSome done.loans (λ l. AreLoansOf lent given_back lent_again left l)
 
-  -- The whole turn of a job at the worker of node n. The store still matches node n if other
-  -- workers meanwhile did no more to this node than crash it. A stop in between leaves in the store
-  -- what it may leave of the node.
+  -- The whole turn of a job at the worker of node n, after any world that was shown at the opening.
+  -- The store still matches node n if other workers meanwhile did no more to this node than crash
+  -- it. A stop in between leaves in the store what it may leave of the node.
   pub record IsTurnAt (opened : GroupView) (n : ℕ) (job : Job) (before after : S)
       (done : FinishedView) : Type 0 where
     pub turn : IsTurn opened job before after done
     pub sound : IsSound turn.left.group
-    pub keeps : IsStoreAt n turn.lent.group before
-        → Waits n turn.given_back.group turn.lent_again.group → IsStoreAt n turn.left.group after
-    pub leaves : IsStoreAt n turn.lent.group before → LeavesAt n turn.given_back.group after
+    pub keeps : (start : World) → Shows opened start
+        → IsStoreAfter g start turn.lent.past n before
+        → HasRested n turn.given_back.past turn.lent_again.past
+        → IsStoreAfter g start turn.left.past n after
+    pub leaves : (start : World) → Shows opened start
+        → IsStoreAfter g start turn.lent.past n before
+        → LeavesAfter g start turn.given_back.past n after
 
   -- what the worker of node n does with a job: its turn if the job runs there, and else nothing
   abbrev pub Does : GroupView → ℕ → Bool → Job → S → S → FinishedView → Type 0

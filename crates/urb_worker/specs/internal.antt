@@ -1,6 +1,8 @@
 pub mod Stages
 pub mod Replies
 pub mod ServedStores
+pub mod CountedHouses
+pub mod WorkerOutputs
 pub mod Desks
 pub mod Arrivals
 pub mod IdleTimes

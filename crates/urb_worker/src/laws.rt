@@ -12,6 +12,7 @@ ghost use Rattle.urb_stable.specs.StableStorage.{refusal_of};
 ghost use Rattle.urb_node.specs.Replies.{Done};
 ghost use Rattle.urb_group.specs.GroupStores.{Clustered};
 ghost use Rattle.urb_group.specs.GroupViews.{GroupView, IsSound, Shows};
+ghost use Rattle.urb_group.specs.Step.{Event};
 ghost use Rattle.urb_group.specs.StoreContents.{IsSecured};
 ghost use Rattle.urb_group.specs.ProcessStops.{GoesOnIn, MayLeave};
 ghost use Rattle.urb_group.specs.World.{World};
@@ -19,7 +20,8 @@ ghost use Rattle.urb_group.specs.declared.reply.Reply.TheVariants.{Refused, Stor
 ghost use Rattle.urb_worker.specs.Changes.{HasChanged, change_of};
 ghost use Rattle.urb_worker.specs.Jobs.{runs_at};
 ghost use Rattle.urb_worker.specs.Views.{FinishedView};
-ghost use Rattle.urb_worker.specs.WholeTurns.{IsStoreAt, IsTurn, LeavesAt, Waits};
+ghost use Rattle.urb_worker.specs.NodeStores.{HasRested, IsStoreAfter, LeavesAfter};
+ghost use Rattle.urb_worker.specs.WholeTurns.{IsTurn};
 ghost use Rattle.urb_worker.specs.declared.change.Change.{Change};
 ghost use Rattle.urb_worker.specs.declared.change.Change.TheVariants.{Failed};
 ghost use Rattle.urb_worker.specs.declared.job.Job.{Job};
@@ -59,37 +61,37 @@ pub fn what_is_reported_has_happened<S: Stable<Alloc = Global>>()
 {}
 
 /// The turns of other workers do no more to a node than crash it.
-pub fn other_workers_let_a_node_wait<S: Stable<Alloc = Global>>()
+pub fn other_workers_let_a_node_rest<S: Stable<Alloc = Global>>()
     ensures turn { (opened : GroupView) (n m : ℕ) (job : Job) (before after : S)
         (came : FinishedView)
         (turn : IsTurn S.Stable opened job before after came)
         → runs_at m job ≡ true
         → n ≢ m
-        → Waits n turn.lent.group turn.given_back.group
-        × Waits n turn.lent_again.group turn.left.group }
-    ensures none { (n : ℕ) (group : GroupView) → Waits n group group }
-    ensures on { (n : ℕ) (first second third : GroupView)
-        → Waits n first second → Waits n second third → Waits n first third }
+        → HasRested n turn.lent.past turn.given_back.past
+        × HasRested n turn.lent_again.past turn.left.past }
+    ensures none { (n : ℕ) (past : List Event) → HasRested n past past }
+    ensures on { (n : ℕ) (first second third : List Event)
+        → HasRested n first second → HasRested n second third → HasRested n first third }
 {}
 
-/// While a node waits, its store still matches it, and a stop leaves what it may leave of the node.
+/// While a node rests, its store still matches it, and a stop leaves what it may leave of the node.
 /// Each store of an opened cluster matches its node.
 pub fn a_store_stays_that_of_its_node<S: Stable<Alloc = Global>>()
     ensures opened { (cluster : Clustered S) (i : ℕ) (store : S)
-        → IsSecured S.Stable cluster
+        (secured : IsSecured S.Stable cluster)
         → slice_get cluster.stores i ≡ Some store
-        → IsStoreAt S.Stable (suc i) cluster.group store }
-    ensures waits { (n : ℕ) (earlier later : GroupView) (store : S)
-        → IsStoreAt S.Stable n earlier store
-        → Waits n earlier later
-        → IsStoreAt S.Stable n later store }
-    ensures rests { (n : ℕ) (group : GroupView) (store : S)
-        → IsStoreAt S.Stable n group store
-        → LeavesAt S.Stable n group store }
-    ensures leaves { (n : ℕ) (earlier later : GroupView) (store : S)
-        → LeavesAt S.Stable n earlier store
-        → Waits n earlier later
-        → LeavesAt S.Stable n later store }
+        → IsStoreAfter S.Stable secured.stocked.world [] (suc i) store }
+    ensures rests { (n : ℕ) (start : World) (earlier later : List Event) (store : S)
+        → IsStoreAfter S.Stable start earlier n store
+        → HasRested n earlier later
+        → IsStoreAfter S.Stable start later n store }
+    ensures left { (n : ℕ) (start : World) (past : List Event) (store : S)
+        → IsStoreAfter S.Stable start past n store
+        → LeavesAfter S.Stable start past n store }
+    ensures leaves { (n : ℕ) (start : World) (earlier later : List Event) (store : S)
+        → LeavesAfter S.Stable start earlier n store
+        → HasRested n earlier later
+        → LeavesAfter S.Stable start later n store }
 {}
 
 /// What a stop of all nodes may leave, node by node, fits together. It opens a group that goes on

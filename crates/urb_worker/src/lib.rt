@@ -77,6 +77,7 @@ mod turn;
 mod turn_stages;
 mod worker_group;
 mod worker_loop;
+mod worker_setting;
 mod worker_threads;
 
 pub use backlog::{BACKLOG, Backlog, KEEPING};
@@ -106,4 +107,5 @@ pub use ticket_places::{SESSION_TICKETS, TicketPlaces};
 pub use tickets::Closed;
 pub use turn::{Finished, Turn};
 pub use worker_group::{GroupSetting, run_group};
-pub use worker_loop::{Ticket, WorkerSetting, serve, serve_from};
+pub use worker_loop::{Ticket, serve, serve_from};
+pub use worker_setting::WorkerSetting;

@@ -33,6 +33,13 @@ impl<K: HouseName> Model for Loan<K> {
 }
 
 impl<K: HouseName> Loan<K> {
+    /// The moment when it ended.
+    pub(crate) fn end(&self) -> Moment<K>
+        ensures { result ≡ self.now.back }
+    {
+        self.back.copy()
+    }
+
     /// The loan between two moments. `None` if one of them is missing.
     pub(crate) fn new(lent: Option<Moment<K>>, back: Option<Moment<K>>) -> Option<Loan<K>>
         ensures { IfSome result (λ l. (lent ≡ Some l.lent) × (back ≡ Some l.back)) }

@@ -6,9 +6,9 @@ ghost use Rattle.urb_worker.specs.Desks.{events_until};
 ghost use Rattle.urb_worker.specs.Loans.{AreLoans, IsLoan};
 ghost use Rattle.urb_worker.specs.Settlings.{published_by, told_in};
 ghost use Rattle.urb_worker.specs.Stages.{is_stored};
-ghost use Rattle.urb_worker.specs.internal.SeenEvents.{Follows, end_of};
+ghost use Rattle.urb_worker.specs.internal.SeenEvents.{Follows, back_of, end_of};
 ghost use Rattle.urb_worker.specs.internal.Stages.{is_drafted};
-ghost use Rattle.urb_worker.specs.Turns.{Begins, Finishes, Stores};
+ghost use Rattle.urb_worker.specs.Turns.{Begins, Finishes, HasBegun, Stores};
 ghost use Rattle.urb_show.specs.Pasts.{IsLedTo};
 ghost use Rattle.urb_worker.specs.WholeTurns.{misrouted};
 
@@ -144,6 +144,8 @@ impl<K: HouseName> Turn<K> {
         ensures ran { result.ran ≡ true }
         // What it did to the House, in full.
         ensures step { Finishes house.old self house.new result }
+        // A turn of this job had begun.
+        ensures begun { HasBegun K.origin self.job self.stage self.loan }
         ensures events { self.events ≤ result.events }
         ensures counted { house.new.events
             ≡ count_after (result.events - self.events) house.old.events }
@@ -174,6 +176,16 @@ impl<K: HouseName> Turn<K> {
             ran: true,
             events: count + more,
             loans: Loans::new(loan, last),
+        }
+    }
+
+    // The moment when its first loan ended. `None` if the House gave no moment.
+    pub(crate) fn end_of_loan(&self) -> Option<Moment<K>>
+        ensures { result ≡ back_of self.now.loan }
+    {
+        match &self.loan {
+            Some(loan) => Some(loan.end()),
+            None => None,
         }
     }
 

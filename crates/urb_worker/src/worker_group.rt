@@ -2,13 +2,14 @@
 //!
 //! A running group has its workers, and the threads outside them.
 
-ghost use Rattle.std.specs.Prelude.{◌≡◌, ◌<◌, ◌≤◌, ◌*◌, ◌+◌, IfOk, IfSome, length, reverse, sum};
-ghost use Rattle.std.specs.Prelude.{vec_len, vec_capacity};
+ghost use Rattle.std.specs.Prelude.{◌≡◌, ◌<◌, ◌≤◌, ◌*◌, ◌+◌, IfOk, IfSome, IsTrue, [], length};
+ghost use Rattle.std.specs.Prelude.{reverse, vec_len, vec_capacity};
 ghost use Rattle.urb_names.specs.declared.limits.TheConstants.{MAX_NODES};
 ghost use Rattle.urb_show.specs.Houses.{IsNamed};
-ghost use Rattle.urb_worker.specs.Counting.{count_after};
-ghost use Rattle.urb_worker.specs.ServedStores.{AreServed, numbers_from};
-ghost use Rattle.urb_worker.specs.internal.ServedStores.{each};
+ghost use Rattle.urb_worker.specs.Counting.{count_after, events_in};
+ghost use Rattle.urb_worker.specs.LastLoans.{AllBegin};
+ghost use Rattle.urb_worker.specs.ServedStores.{AreServed, EndsWhole, numbers_from};
+ghost use Rattle.urb_worker.specs.internal.ServedStores.{AllKeepUp, ClosesAt, each};
 ghost use Rattle.urb_show.specs.declared.opened_group.TheConstants.{READERS};
 
 use crate::listeners::{ListenerInput, run_listeners};
@@ -46,7 +47,7 @@ struct GroupRoom<K: HouseName, L: HubName, S: Stable<Alloc = Global>> {
     inputs: Vec<WorkerInput<K, L, S>>,
     workers: Vec<Worker<K, L, S>>,
     stores: Vec<S>,
-    tallies: Vec<Tally<L>>,
+    tallies: Vec<Tally<K, L>>,
 }
 
 // A channel for each of `count` workers.
@@ -94,16 +95,17 @@ fn reserve_room<K: HouseName, L: HubName, S: Stable<Alloc = Global> + Drop>(
 }
 
 // Makes an input for each store, the last node's first.
-#[tactic(auto, using(crate::proofs::ServedStores::takes_up, crate::proofs::ServedStores::reverse_push))]
+#[tactic(auto, using(crate::proofs::ServedStores::takes_up, crate::proofs::ServedStores::reverse_push, crate::proofs::LastLoans::begin_but_last, crate::proofs::LastLoans::begin_last))]
 fn make_inputs<K: HouseName, L: HubName, S: Stable<Alloc = Global> + Drop>(
     inputs: Vec<WorkerInput<K, L, S>>,
     stores: Vec<S>,
     jobs: Vec<Receiver<Ticket<K>>>,
-    tallies: Vec<Tally<L>>,
+    tallies: Vec<Tally<K, L>>,
 ) -> Vec<WorkerInput<K, L, S>>
     requires room { (vec_len inputs ≡ 0) × (vec_len stores ≤ vec_capacity inputs) }
     requires one_each { (vec_len jobs ≡ vec_len stores) × (vec_len tallies ≡ vec_len stores) }
     requires nodes { vec_len stores ≤ MAX_NODES }
+    requires begin { AllBegin tallies.items [] }
     ensures count { vec_len result ≡ vec_len stores }
     ensures stores { reverse (each result.items (λ input. input.store)) ≡ stores.items }
     ensures nodes { reverse (each result.items (λ input. input.node))
@@ -131,12 +133,12 @@ fn open_hub<K: HouseName, L: HubName, R: Wait>(
     alloc: Global,
     opened: Opened,
     blank: Blank,
-) -> Option<(Hub<K, L>, Vec<Tally<L>>, Vec<LogReader<K>>)>
+) -> Option<(Hub<K, L>, Vec<Tally<K, L>>, Vec<LogReader<K>>)>
     requires names { IsNamed opened K.book K.history K.base K.origin }
     requires name { blank.name ≡ L.name }
     requires parts { (blank.parts ≡ L.parts) × (L.parts ≡ opened.group.size.n) }
     requires start { L.start ≡ 0 }
-    ensures tallies { IfSome result (λ it. vec_len it.1 ≡ L.parts) }
+    ensures tallies { IfSome result (λ it. (vec_len it.1 ≡ L.parts) × AllBegin it.1.items []) }
     ensures readers { IfSome result (λ it. length it.2.items ≡ READERS * L.parts) }
     ensures nodes { IfSome result (λ it. (L.parts ≡ length K.base) × (L.parts ≤ MAX_NODES)) }
 {
@@ -156,6 +158,13 @@ fn open_hub<K: HouseName, L: HubName, R: Wait>(
             None
         }
     }
+}
+
+// The count of events of a run, if the run is whole.
+fn count_if(is_whole: bool, events: u64) -> Option<u64>
+    ensures { IfSome result (λ count. (count ≡ events) × IsTrue is_whole) }
+{
+    if is_whole { Some(events) } else { None }
 }
 
 /// What a group runs with, besides the opened group.
@@ -181,7 +190,7 @@ struct WorkerGroup<K: HouseName, L: HubName, S: Stable<Alloc = Global>> {
     inputs: Vec<WorkerInput<K, L, S>>,
     workers: Vec<Worker<K, L, S>>,
     stores: Vec<S>,
-    tallies: Vec<Tally<L>>,
+    tallies: Vec<Tally<K, L>>,
     ghost room: { (vec_len workers ≡ 0) × (vec_len inputs ≤ vec_capacity workers) },
     ghost store_room: { (vec_len stores ≡ 0) × (vec_len inputs ≤ vec_capacity stores) },
     ghost tally_room: { (vec_len tallies ≡ 0) × (vec_len inputs ≤ vec_capacity tallies) },
@@ -206,7 +215,7 @@ fn run_in_scope<
     group: WorkerGroup<K, L, S>,
     listening: ListenerInput<K>,
     watch: &mut W,
-) -> ((Vec<S>, Vec<Tally<L>>), bool)
+) -> ((Vec<S>, Vec<Tally<K, L>>), bool)
 where
     R: Threads + Wait + Clock + Sync + Net<Listener = TcpListener, Stream = TcpStream>,
     requires nodes { (length outer.now.stations.now ≤ length K.base) × (length K.base ≤ MAX_NODES) }
@@ -216,6 +225,10 @@ where
     ensures order { AreServed S.Stable K.origin
         (reverse (each group.inputs.items (λ input. input.node)))
         (reverse (each group.inputs.items (λ input. input.store))) result.0.0.items }
+    ensures keeps { AllKeepUp S.Stable K.origin
+        (reverse (each group.inputs.items (λ input. input.node)))
+        (reverse (each group.inputs.items (λ input. input.store))) result.0.0.items
+        result.0.1.items }
 {
     let WorkerGroup {
         inputs,
@@ -247,7 +260,7 @@ fn run_worker_group<
     group: WorkerGroup<K, L, S>,
     listening: ListenerInput<K>,
     watch: &mut W,
-) -> ((Vec<S>, Vec<Tally<L>>), bool)
+) -> ((Vec<S>, Vec<Tally<K, L>>), bool)
 where
     R: Threads + Wait + Clock + Sync + Net<Listener = TcpListener, Stream = TcpStream>,
     requires nodes { (length outer.now.stations.now ≤ length K.base) × (length K.base ≤ MAX_NODES) }
@@ -257,6 +270,10 @@ where
     ensures order { AreServed S.Stable K.origin
         (reverse (each group.inputs.items (λ input. input.node)))
         (reverse (each group.inputs.items (λ input. input.store))) result.0.0.items }
+    ensures keeps { AllKeepUp S.Stable K.origin
+        (reverse (each group.inputs.items (λ input. input.node)))
+        (reverse (each group.inputs.items (λ input. input.store))) result.0.0.items
+        result.0.1.items }
 {
     let rt = outer.rt;
     let link = PacedLink::new(rt, outer.link, outer.stations);
@@ -275,7 +292,7 @@ where
     thread::scope(
         thread::scope_env(),
         rt,
-        move |scope| -> ((Vec<S>, Vec<Tally<L>>), bool)
+        move |scope| -> ((Vec<S>, Vec<Tally<K, L>>), bool)
             requires { (length outer.now.stations.now ≤ length K.base)
                 × (length K.base ≤ MAX_NODES)
                 × (vec_len listening.queues ≡ length outer.now.stations.now) }
@@ -283,24 +300,32 @@ where
                 × (vec_len result.0.1 ≡ vec_len group.inputs)
                 × AreServed S.Stable K.origin
                 (reverse (each group.inputs.items (λ input. input.node)))
-                (reverse (each group.inputs.items (λ input. input.store))) result.0.0.items }
+                (reverse (each group.inputs.items (λ input. input.store))) result.0.0.items
+                × AllKeepUp S.Stable K.origin
+                (reverse (each group.inputs.items (λ input. input.node)))
+                (reverse (each group.inputs.items (λ input. input.store))) result.0.0.items
+                result.0.1.items }
         { run_in_scope(scope, setting, outer, group, listening, watch) },
     )
 }
 
-// Closes the house, and returns the count of its events, which is that of all tallies.
+// Closes the house, and returns the count of its events, which is that of all tallies. The second
+// result says whether the end of each worker's last loan is known.
+#[tactic(auto, using(crate::proofs::EndedRuns::closes_at))]
 fn close_hub<K: HouseName, L: HubName, R: Wait>(
     rt: &R,
     hub: Hub<K, L>,
-    tallies: Vec<Tally<L>>,
-) -> u64
+    tallies: Vec<Tally<K, L>>,
+) -> (u64, bool)
     requires { vec_len tallies ≡ L.parts }
-    ensures { result ≡ count_after (sum tallies.items) L.start }
+    ensures count { result.0 ≡ count_after (events_in tallies.items) L.start }
+    ensures closes { IsTrue result.1 → ClosesAt K.origin (length K.base) tallies.items }
 {
-    let house = hub.close(tallies);
+    let (house, is_known) = hub.close(tallies);
+    house.recall();
     let events = house.events();
     drop(house.close(rt));
-    events
+    (events, is_known)
 }
 
 /// Runs a group that was opened, until the watch ends. Each node has a worker with its store, and a
@@ -308,7 +333,8 @@ fn close_hub<K: HouseName, L: HubName, R: Wait>(
 /// events.
 ///
 /// At the end it ends the sessions of clients, and waits for them. There is no count if memory or a
-/// thread was refused. Then nothing runs any more, and the watch was not called.
+/// thread was refused. Then nothing runs any more, and the watch was not called. There is also none
+/// if the House gave a worker no moment, which no run sees.
 #[tactic(auto, using(crate::proofs::ServedStores::unserved))]
 pub fn run_group<
     K: HouseName + Send + Sync,
@@ -337,6 +363,10 @@ where
     // turn on the House that was opened.
     ensures order { AreServed S.Stable opened.group (numbers_from 1 (vec_len stores)) stores.items
         result.0.items }
+    // If there is a count, one history led from the opened group to the end. Each store matches its
+    // node after it, if each store matched its node at the opening.
+    ensures whole { IfSome result.1
+        (λ events. EndsWhole S.Stable opened.group stores.items result.0.items) }
 {
     let (rt, alloc) = (setting.rt, setting.alloc);
     let Ok(rooms) = reserve_room::<K, L, S>(alloc, setting.stations.len()) else {
@@ -361,7 +391,7 @@ where
         tallies,
     };
     let listening = ListenerInput { queues, readers };
-    let ((stores, tallies), whole) = run_worker_group(setting, &hub, group, listening, watch);
-    let events = close_hub(rt, hub, tallies);
-    (stores, if whole { Some(events) } else { None })
+    let ((stores, tallies), has_run) = run_worker_group(setting, &hub, group, listening, watch);
+    let (events, is_known) = close_hub(rt, hub, tallies);
+    (stores, count_if(has_run & is_known, events))
 }

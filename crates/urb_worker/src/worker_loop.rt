@@ -1,21 +1,24 @@
 //! A node's worker: its tickets, one after the other.
 
-ghost use Rattle.std.specs.Prelude.{◌≡◌, ◌++◌, [], MatchOption, false, true};
+ghost use Rattle.std.specs.Prelude.{◌≡◌, ◌++◌, [], MatchOption, true};
 ghost use Rattle.urb_node.specs.Replies.{packets_in};
 ghost use Rattle.urb_group.specs.Commands.{reply_of};
+ghost use Rattle.urb_group.specs.GroupViews.{Shows};
+ghost use Rattle.urb_group.specs.World.{World};
 ghost use Rattle.urb_worker.specs.internal.Replies.{tells_record};
 ghost use Rattle.urb_worker.specs.internal.OwnJobs.{DoesBoth, Learns, MayDoOwn};
 ghost use Rattle.urb_worker.specs.Acts.{MaySend, Sends, reports_of};
 ghost use Rattle.urb_worker.specs.Changes.{change_of};
+ghost use Rattle.urb_worker.specs.NodeStores.{IsStoreSince};
 ghost use Rattle.urb_worker.specs.ServedStores.{HasServed, Works};
 ghost use Rattle.urb_worker.specs.internal.ServedStores.{MayWork};
 
 use crate::outlets::WorkerOutlets;
 use crate::own_jobs::OwnJobs;
-use crate::polling::Polling;
 use crate::tickets::{Closed, next_ticket};
 use crate::{
-    Finished, Gate, Hub, HubName, Job, Link, Reporter, Settling, Silent, Tally, change_of,
+    Finished, Gate, Hub, HubName, Job, Link, Reporter, Settling, Silent, Tally, WorkerSetting,
+    change_of,
 };
 use crossbeam_channel::{Receiver, Sender};
 use std::alloc::Global;
@@ -127,71 +130,6 @@ pub(crate) fn is_record_stored(reply: &Reply) -> bool
     matches!(reply, Reply::Stored(_))
 }
 
-/// What the workers of one Hub have in common.
-#[derive(Drop)]
-pub struct WorkerSetting<'a, K: HouseName, L: HubName, N: Link, G: Gate, H: Reporter, R: Wait> {
-    pub(crate) rt: &'a R,
-    pub(crate) alloc: Global,
-    pub(crate) hub: &'a Hub<K, L>,
-    pub(crate) link: &'a N,
-    pub(crate) gate: &'a G,
-    pub(crate) reporter: &'a H,
-    pub(crate) polling: Polling,
-    /// Whether a worker feeds its node, and lets it tick early.
-    pub(crate) mends: bool,
-}
-
-impl<'a, K: HouseName, L: HubName, N: Link, G: Gate, H: Reporter, R: Wait> WorkerSetting<
-    'a,
-    K,
-    L,
-    N,
-    G,
-    H,
-    R,
-> {
-    /// Workers that do their tickets and nothing else: they don't feed their nodes, tick by
-    /// themselves or poll their channels, but sleep until a ticket comes.
-    pub fn new(
-        rt: &'a R,
-        alloc: Global,
-        hub: &'a Hub<K, L>,
-        link: &'a N,
-        gate: &'a G,
-        reporter: &'a H,
-    ) -> WorkerSetting<'a, K, L, N, G, H, R> {
-        WorkerSetting {
-            rt,
-            alloc,
-            hub,
-            link,
-            gate,
-            reporter,
-            polling: Polling::none(),
-            mends: false,
-        }
-    }
-
-    /// The same workers, which also feed their nodes at their start and after each restart, and let
-    /// them tick early after a tick that sent something.
-    pub fn mending(self) -> WorkerSetting<'a, K, L, N, G, H, R>
-        ensures mends { result.mends ≡ true }
-        ensures polling { result.polling ≡ self.entry.polling }
-    {
-        WorkerSetting {
-            mends: true,
-            ..self
-        }
-    }
-
-    /// Outlets for one of these workers. Nothing went through them yet.
-    pub fn outlets_for_worker(&self) -> WorkerOutlets<'a, N, H>
-        ensures { result ≡ [] }
-    {
-        WorkerOutlets::new(self.link, self.reporter)
-    }
-}
-
 // What a worker keeps between two jobs: how often it still polls, a buffer for packets, and its own
 // jobs.
 #[derive(Drop)]
@@ -221,8 +159,8 @@ pub fn serve<
     jobs: Receiver<Ticket<K>>,
     link: &N,
     gate: &G,
-    tally: Tally<L>,
-) -> Tally<L> {
+    tally: Tally<K, L>,
+) -> Tally<K, L> {
     let mut store = store;
     let reporter = Silent;
     let setting = WorkerSetting::new(rt, alloc, hub, link, gate, &reporter);
@@ -250,10 +188,13 @@ fn do_ticket<
     state: &mut LoopState,
     is_own: bool,
     ticket: Ticket<K>,
-    tally: Tally<L>,
-) -> Tally<L>
+    tally: Tally<K, L>,
+) -> Tally<K, L>
     ensures work { Works S.Stable K.origin node ticket.job store.old store.new
         outlets.old outlets.new }
+    ensures keeps { (start : World) → Shows K.origin start
+        → IsStoreSince S.Stable start tally.last node store.old
+        → IsStoreSince S.Stable start result.last node store.new }
     ensures own { Learns setting.now.mends is_own node ticket.job state.old.own state.new.own }
 {
     let Ticket { job, answer } = ticket;
@@ -293,9 +234,12 @@ fn do_own_job<
     outlets: &mut WorkerOutlets<'_, N, H>,
     state: &mut LoopState,
     has_waited: bool,
-    tally: Tally<L>,
-) -> (Tally<L>, Option<NoMemory>)
+    tally: Tally<K, L>,
+) -> (Tally<K, L>, Option<NoMemory>)
     ensures work { MayWork S.Stable K.origin node store.old store.new outlets.old outlets.new }
+    ensures keeps { (start : World) → Shows K.origin start
+        → IsStoreSince S.Stable start tally.last node store.old
+        → IsStoreSince S.Stable start result.0.last node store.new }
     ensures own { MayDoOwn setting.now.mends node has_waited state.old.own state.new.own
         result.1 }
 {
@@ -329,10 +273,13 @@ fn do_round<
     outlets: &mut WorkerOutlets<'_, N, H>,
     state: &mut LoopState,
     came: Option<Ticket<K>>,
-    tally: Tally<L>,
-) -> (Tally<L>, Option<NoMemory>)
+    tally: Tally<K, L>,
+) -> (Tally<K, L>, Option<NoMemory>)
     ensures served { HasServed S.Stable K.origin node store.old store.new
         outlets.old outlets.new }
+    ensures keeps { (start : World) → Shows K.origin start
+        → IsStoreSince S.Stable start tally.last node store.old
+        → IsStoreSince S.Stable start result.0.last node store.new }
     ensures order { MatchOption came
         (MayDoOwn setting.now.mends node true state.old.own state.new.own result.1)
         (λ ticket. DoesBoth setting.now.mends node ticket.job state.old.own state.new.own
@@ -372,10 +319,15 @@ pub fn serve_from<
     store: &mut S,
     outlets: &mut WorkerOutlets<'_, N, H>,
     jobs: &'q Receiver<Ticket<K>>,
-    tally: Tally<L>,
-) -> (Tally<L>, Closed<'q>)
+    tally: Tally<K, L>,
+) -> (Tally<K, L>, Closed<'q>)
     // It did some jobs, one after the other, and let out what their results say.
-    ensures { HasServed S.Stable K.origin node store.old store.new outlets.old outlets.new }
+    ensures served { HasServed S.Stable K.origin node store.old store.new
+        outlets.old outlets.new }
+    // If the store matched the node when the worker gave the House back last, it still does.
+    ensures keeps { (start : World) → Shows K.origin start
+        → IsStoreSince S.Stable start tally.last node store.old
+        → IsStoreSince S.Stable start result.0.last node store.new }
 {
     let rt = setting.rt;
     let mut tally = tally;

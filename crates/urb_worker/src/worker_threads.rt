@@ -1,13 +1,15 @@
 //! The workers of a group, each on a thread of its own: what they start with, and what they leave.
 
-ghost use Rattle.std.specs.Prelude.{◌≡◌, ◌≤◌, IfSome, reverse, vec_len, vec_capacity};
+ghost use Rattle.std.specs.Prelude.{◌≡◌, ◌≤◌, IfSome, [], reverse, vec_len, vec_capacity};
+ghost use Rattle.urb_worker.specs.Desks.{events_until};
 ghost use Rattle.urb_worker.specs.ServedStores.{AreServed, IsLeftOf};
-ghost use Rattle.urb_worker.specs.internal.ServedStores.{AllThere, each, in_either};
+ghost use Rattle.urb_worker.specs.internal.ServedStores.{AllKeepUp, AllThere, KeepsUp, each};
+ghost use Rattle.urb_worker.specs.internal.ServedStores.{in_either};
 
 use crate::{Gate, HubName, Link, Reporter, Tally, Ticket, WorkerSetting, serve_from};
 use crossbeam_channel::{Receiver, Sender};
 use std::alloc::Global;
-use std::marker::PhantomData;
+use std::marker::{Model, PhantomData};
 use std::snapshot::Snapshot;
 use std::sync::Wait;
 use std::thread::{Promise, PromisedHandle, Scope, Threads};
@@ -22,18 +24,32 @@ pub(crate) struct WorkerInput<K: HouseName, L: HubName, S: Stable<Alloc = Global
     pub(crate) node: NodeId,
     pub(crate) store: S,
     pub(crate) jobs: Receiver<Ticket<K>>,
-    pub(crate) tally: Tally<L>,
+    pub(crate) tally: Tally<K, L>,
+    // It has had no loan since the opening.
+    ghost fresh: { events_until tally.last ≡ [] },
 }
 
 /// What a worker without a thread has left: its store after its jobs, and its tally.
 #[derive(Drop)]
 pub(crate) struct WorkerOutput<K: HouseName, L: HubName, S: Stable<Alloc = Global>> {
     store: S,
-    tally: Tally<L>,
+    tally: Tally<K, L>,
     node: NodeId,
     came: Snapshot<S>,
     of: PhantomData<K>,
-    ghost served: { IsLeftOf S.Stable K.origin node came.value store },
+}
+
+impl<K: HouseName, L: HubName, S: Stable<Alloc = Global>> Model for WorkerOutput<K, L, S> {
+    ghost use Rattle.urb_worker.specs.ServedStores.{IsLeftOf};
+    ghost use Rattle.urb_worker.specs.internal.ServedStores.{KeepsUp};
+    ghost use Rattle.urb_worker.specs.internal.WorkerOutputs.{OutputView};
+
+    ghost Value = { OutputView S };
+
+    ghost view = { λ w. record { node = w.node; came = w.came.value } };
+
+    ghost invariant = { λ w. IsLeftOf S.Stable K.origin w.node w.came.value w.store
+        × KeepsUp S.Stable K.origin w.node w.came.value w.store w.tally };
 }
 
 /// The promise that the store that is left is the one of the input, after jobs of this node.
@@ -44,32 +60,35 @@ pub(crate) struct KeepsStore<K, S> {
     of: PhantomData<K>,
 }
 
-impl<K: HouseName, L: HubName, S: Stable<Alloc = Global>> Promise<(S, Tally<L>)>
+impl<K: HouseName, L: HubName, S: Stable<Alloc = Global>> Promise<(S, Tally<K, L>)>
     for KeepsStore<K, S> {
     ghost use Rattle.urb_worker.specs.ServedStores.{IsLeftOf};
+    ghost use Rattle.urb_worker.specs.internal.ServedStores.{KeepsUp};
 
     ghost kept_by = { λ promise left.
-        IsLeftOf S.Stable K.origin promise.node promise.came.value left.0 };
+        IsLeftOf S.Stable K.origin promise.node promise.came.value left.0
+        × KeepsUp S.Stable K.origin promise.node promise.came.value left.0 left.1 };
 }
 
 /// A worker: its thread, or what it has left if no thread could be made.
 pub(crate) type Worker<K, L, S> = Result<
-    PromisedHandle<(S, Tally<L>), KeepsStore<K, S>>,
+    PromisedHandle<(S, Tally<K, L>), KeepsStore<K, S>>,
     WorkerOutput<K, L, S>,
 >;
 
 // Does a node's jobs until its channel closes, and leaves its store and its tally.
-#[tactic(auto, using(crate::proofs::ServedStores::leaves))]
+#[tactic(auto, using(crate::proofs::ServedStores::leaves, crate::proofs::ServedStores::keeps_up))]
 fn run_worker<K: HouseName, L: HubName, S: Stable<Alloc = Global> + Drop, N, G, H, R>(
     setting: &WorkerSetting<'_, K, L, N, G, H, R>,
     input: WorkerInput<K, L, S>,
-) -> (S, Tally<L>)
+) -> (S, Tally<K, L>)
 where
     N: Link,
     G: Gate,
     H: Reporter,
     R: Wait + Clock,
-    ensures { IsLeftOf S.Stable K.origin input.node input.store result.0 }
+    ensures served { IsLeftOf S.Stable K.origin input.node input.store result.0 }
+    ensures keeps { KeepsUp S.Stable K.origin input.node input.store result.0 result.1 }
 {
     let WorkerInput {
         node,
@@ -105,7 +124,7 @@ pub(crate) fn start_workers<
     ensures workers { vec_len result.0 ≡ vec_len inputs }
     // The workers have the stores of the inputs, and their nodes, in reverse order.
     ensures order { each result.0.items (λ worker.
-        in_either worker (λ thread. thread.promise.came.value) (λ left. left.came.value))
+        in_either worker (λ thread. thread.promise.came.value) (λ left. left.came))
         ≡ reverse (each inputs.items (λ input. input.store)) }
     ensures nodes { each result.0.items (λ worker.
         in_either worker (λ thread. thread.promise.node) (λ left. left.node))
@@ -121,8 +140,9 @@ pub(crate) fn start_workers<
     while let Some(input) = inputs.pop() {
         let node = input.node;
         let (came, kept) = (Snapshot::of(&input.store), Snapshot::of(&input.store));
-        let work = move || -> (S, Tally<L>)
-            ensures { IsLeftOf S.Stable K.origin input.node input.store result.0 }
+        let work = move || -> (S, Tally<K, L>)
+            ensures { IsLeftOf S.Stable K.origin input.node input.store result.0
+                × KeepsUp S.Stable K.origin input.node input.store result.0 result.1 }
         { run_worker(setting, input) };
         let promise = KeepsStore {
             node,
@@ -152,11 +172,15 @@ pub(crate) fn start_workers<
 fn join_worker<K: HouseName, L: HubName, S: Stable<Alloc = Global> + Drop, R: Threads>(
     rt: &R,
     worker: Worker<K, L, S>,
-) -> (S, Tally<L>)
-    ensures { IsLeftOf S.Stable K.origin
+) -> (S, Tally<K, L>)
+    ensures served { IsLeftOf S.Stable K.origin
         (in_either worker (λ thread. thread.promise.node) (λ left. left.node))
-        (in_either worker (λ thread. thread.promise.came.value) (λ left. left.came.value))
+        (in_either worker (λ thread. thread.promise.came.value) (λ left. left.came))
         result.0 }
+    ensures keeps { KeepsUp S.Stable K.origin
+        (in_either worker (λ thread. thread.promise.node) (λ left. left.node))
+        (in_either worker (λ thread. thread.promise.came.value) (λ left. left.came))
+        result.0 result.1 }
 {
     match worker {
         Ok(thread) => thread.join(rt),
@@ -178,8 +202,8 @@ pub(crate) fn join_workers<K: HouseName, L: HubName, S: Stable<Alloc = Global> +
     rt: &R,
     workers: Vec<Worker<K, L, S>>,
     stores: Vec<S>,
-    tallies: Vec<Tally<L>>,
-) -> (Vec<S>, Vec<Tally<L>>)
+    tallies: Vec<Tally<K, L>>,
+) -> (Vec<S>, Vec<Tally<K, L>>)
     requires stores { (vec_len stores ≡ 0) × (vec_len workers ≤ vec_capacity stores) }
     requires tallies { (vec_len tallies ≡ 0) × (vec_len workers ≤ vec_capacity tallies) }
     ensures stores { vec_len result.0 ≡ vec_len workers }
@@ -189,8 +213,15 @@ pub(crate) fn join_workers<K: HouseName, L: HubName, S: Stable<Alloc = Global> +
         (each workers.items (λ worker.
         in_either worker (λ thread. thread.promise.node) (λ left. left.node)))
         (each workers.items (λ worker.
-        in_either worker (λ thread. thread.promise.came.value) (λ left. left.came.value)))
+        in_either worker (λ thread. thread.promise.came.value) (λ left. left.came)))
         result.0.items }
+    // Each still matches its node, if the end of its worker's last loan is known.
+    ensures keeps { AllKeepUp S.Stable K.origin
+        (each workers.items (λ worker.
+        in_either worker (λ thread. thread.promise.node) (λ left. left.node)))
+        (each workers.items (λ worker.
+        in_either worker (λ thread. thread.promise.came.value) (λ left. left.came)))
+        result.0.items result.1.items }
 {
     let mut stores = stores;
     let mut tallies = tallies;

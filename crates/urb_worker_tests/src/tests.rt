@@ -56,7 +56,7 @@ fn open_hub<K: HouseName, L: HubName, R: Wait>(
     alloc: Global,
     opened: Opened,
     blank: Blank,
-) -> Option<(Hub<K, L>, Vec<Tally<L>>, Vec<LogReader<K>>)>
+) -> Option<(Hub<K, L>, Vec<Tally<K, L>>, Vec<LogReader<K>>)>
     requires names { IsNamed opened K.book K.history K.base K.origin }
     requires name { blank.name ≡ L.name }
     requires parts { (blank.parts ≡ L.parts) × (L.parts ≡ opened.group.size.n) }

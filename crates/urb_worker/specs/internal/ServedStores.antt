@@ -1,8 +1,14 @@
 -- Words about lists, for the order of the stores; and a job that a worker may do.
-use Rattle.std.specs.Prelude.{List, [], ℕ, ◌∷◌, ◌≡◌, ◌⊎◌, map, Result, Ok, Err}
+use Rattle.std.specs.Prelude.{Err, List, Ok, Result, [], length, map, ℕ, ◌∷◌, ◌≡◌, ◌⊎◌}
 use Rattle.urb_stable.specs.declared.stable.Stable.{Ghosts}
-use Rattle.urb_group.specs.GroupViews.{GroupView}
+use Rattle.urb_group.specs.GroupViews.{GroupView, IsSound, Shows}
+use Rattle.urb_group.specs.Step.{Event}
+use Rattle.urb_group.specs.World.{World}
 use Rattle.urb_worker.specs.Acts.{Act}
+use Rattle.urb_show.specs.Pasts.{IsLedTo}
+use Rattle.urb_worker.specs.Counting.{TallyView}
+use Rattle.urb_worker.specs.LastLoans.{AllRestSince}
+use Rattle.urb_worker.specs.NodeStores.{IsStoreAfter, IsStoreSince}
 use Rattle.urb_worker.specs.ServedStores.{Works}
 use Rattle.urb_worker.specs.declared.job.Job.{Job}
 
@@ -20,6 +26,32 @@ abbrev pub AllThere : {T E : Type 0} → List (Result T E) → Type 0
 AllThere [] = Unit {0}
 AllThere (Ok there ∷ more) = AllThere more
 AllThere (Err left ∷ more) = ⊥
+
+module _ {S A : Type 0} (g : Ghosts S A) (opened : GroupView) where
+  -- If the store matched node n at the opening, it still matches the node after the worker's last
+  -- loan, provided that the end of that is known.
+  abbrev pub KeepsUp : ℕ → S → S → TallyView → Type 0
+  KeepsUp n first last tally =
+      (start : World) → Shows opened start → IsStoreAfter g start [] n first
+      → IsStoreSince g start tally.last n last
+
+  -- the same for each of these nodes, in their order
+  abbrev pub AllKeepUp : List ℕ → List S → List S → List TallyView → Type 0
+  AllKeepUp [] [] [] [] = Unit {0}
+  AllKeepUp (n ∷ nodes) (first ∷ firsts) (last ∷ lasts) (tally ∷ tallies) =
+      KeepsUp n first last tally × AllKeepUp nodes firsts lasts tallies
+  AllKeepUp nodes firsts lasts tallies = ⊥
+
+-- A house of n nodes was closed. Its history led from the opened group to the last one, and each
+-- node has rested since its worker's last loan.
+pub record ClosesAt (opened : GroupView) (n : ℕ) (tallies : List TallyView) : Type 0 where
+  pub history : List Event
+  pub group : GroupView
+  pub sound : IsSound group
+  pub nodes : length group.nodes ≡ n
+  pub size : group.size.n ≡ n
+  pub leads : IsLedTo opened history group
+  pub rest : AllRestSince 1 tallies history
 
 -- the worker of node n does some job, or does nothing
 abbrev pub MayWork : {S A : Type 0} → Ghosts S A → GroupView → ℕ → S → S → List Act → List Act

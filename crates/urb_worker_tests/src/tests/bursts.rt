@@ -236,7 +236,7 @@ where
     );
     tallies.push_reserved(second);
     tallies.push_reserved(tally);
-    let house = hub.close(tallies);
+    let (house, _) = hub.close(tallies);
     let delivered = match house.log(one) {
         Some(entries) => entries.len(),
         None => 0,

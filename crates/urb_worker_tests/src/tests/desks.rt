@@ -115,7 +115,7 @@ fn run_session<
         { is_answered(rt, alloc, &line, reader, SENT, ANSWERED) },
     );
     tallies.push_reserved(tally);
-    let house = hub.close(tallies);
+    let (house, is_known) = hub.close(tallies);
     let events = house.events();
     drop(house.close(rt));
     let is_alone = match crossbeam_channel::bounded(alloc, 64) {
@@ -132,7 +132,7 @@ fn run_session<
         }
         Err(_) => false,
     };
-    Some((is_served, is_alone, events))
+    Some((is_served && is_known, is_alone, events))
 }
 
 #[test]

@@ -57,8 +57,8 @@ fn work_all<K: HouseName, L: HubName, R: Wait>(
     hub: &Hub<K, L>,
     node: NodeId,
     jobs: Vec<Job>,
-    tally: Tally<L>,
-) -> (u64, Tally<L>) {
+    tally: Tally<K, L>,
+) -> (u64, Tally<K, L>) {
     let gate = Counter {
         asked: AtomicU64::new(0),
     };
@@ -92,7 +92,11 @@ fn run_drafts<K: HouseName, L: HubName, R: Wait>(
     let tally = tallies.pop().unwrap();
     let (digits, tally) = work_all(rt, alloc, &hub, NodeId::new(1).unwrap(), jobs, tally);
     tallies.push_reserved(tally);
-    drop(hub.close(tallies).close(rt));
+    let (house, is_known) = hub.close(tallies);
+    drop(house.close(rt));
+    if !is_known {
+        return None;
+    }
     Some(digits)
 }
 

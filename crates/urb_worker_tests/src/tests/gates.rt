@@ -288,7 +288,7 @@ fn two_workers<
     );
     tallies.push_reserved(first_tally);
     tallies.push_reserved(second_tally);
-    let house = hub.close(tallies);
+    let (house, _) = hub.close(tallies);
     let events = house.events();
     drop(house.close(rt));
     Some(Outcome {

@@ -30,7 +30,7 @@ struct Nodes<'a, 'r, K: HouseName, L: HubName, R: Wait + Clock> {
 
 impl<'a, 'r, K: HouseName, L: HubName, R: Wait + Clock> Nodes<'a, 'r, K, L, R> {
     // Has a node's worker do a job. Without memory for that, the job is lost.
-    fn work(&mut self, node: NodeId, job: Job, tally: Tally<L>) -> Tally<L> {
+    fn work(&mut self, node: NodeId, job: Job, tally: Tally<K, L>) -> Tally<K, L> {
         let Some(store) = self.stores.get_mut(usize::from(node.number()) - 1) else {
             return tally;
         };
@@ -52,7 +52,7 @@ impl<'a, 'r, K: HouseName, L: HubName, R: Wait + Clock> Nodes<'a, 'r, K, L, R> {
     }
 
     // Brings each node what was sent to it, twenty times over, and counts the packets.
-    fn deliver(&mut self, tally: Tally<L>) -> (usize, Tally<L>) {
+    fn deliver(&mut self, tally: Tally<K, L>) -> (usize, Tally<K, L>) {
         let mut tally = tally;
         let mut count: usize = 0;
         for _ in 0..20u8 {
@@ -70,7 +70,7 @@ impl<'a, 'r, K: HouseName, L: HubName, R: Wait + Clock> Nodes<'a, 'r, K, L, R> {
     }
 
     // Ticks each node, and returns how many packets that leads to.
-    fn tick(&mut self, tally: Tally<L>) -> (usize, Tally<L>) {
+    fn tick(&mut self, tally: Tally<K, L>) -> (usize, Tally<K, L>) {
         let mut tally = tally;
         for number in 0..self.count {
             let Some(node) = NodeId::new(number.saturating_add(1)) else {
@@ -82,7 +82,7 @@ impl<'a, 'r, K: HouseName, L: HubName, R: Wait + Clock> Nodes<'a, 'r, K, L, R> {
     }
 
     // The number of packets that a submit at the first node leads to, and then two rounds of ticks.
-    fn play(&mut self, tally: Tally<L>) -> ((usize, usize, usize), Tally<L>) {
+    fn play(&mut self, tally: Tally<K, L>) -> ((usize, usize, usize), Tally<K, L>) {
         let node = NodeId::new(1).unwrap();
         let tally = match submit(self.alloc, node, 1) {
             Some(job) => self.work(node, job, tally),
@@ -112,8 +112,8 @@ fn have_delivered<K: HouseName>(house: &House<K>, count: u8) -> bool {
 // What these nodes play.
 fn play_with<K: HouseName, L: HubName, R: Wait + Clock>(
     nodes: Nodes<'_, '_, K, L, R>,
-    tally: Tally<L>,
-) -> ((usize, usize, usize), Tally<L>) {
+    tally: Tally<K, L>,
+) -> ((usize, usize, usize), Tally<K, L>) {
     let mut nodes = nodes;
     nodes.play(tally)
 }
@@ -150,7 +150,7 @@ fn run_until_quiet<K: HouseName, L: HubName, R: Wait + Clock>(
     };
     let (counts, tally) = play_with(nodes, tally);
     tallies.push_reserved(tally);
-    let house = hub.close(tallies);
+    let (house, _) = hub.close(tallies);
     let delivered = have_delivered(&house, count);
     drop(house.close(rt));
     Some((counts, delivered))

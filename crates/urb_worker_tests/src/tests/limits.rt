@@ -205,9 +205,12 @@ fn run_limits<
         { first_wrong(rt, alloc, &line, reader) },
     );
     tallies.push_reserved(tally);
-    let house = hub.close(tallies);
+    let (house, is_known) = hub.close(tallies);
     let events = house.events();
     drop(house.close(rt));
+    if !is_known {
+        return None;
+    }
     Some((wrong?, events))
 }
 

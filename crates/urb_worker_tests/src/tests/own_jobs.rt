@@ -60,9 +60,9 @@ fn work<K: HouseName + Send + Sync, L: HubName + Send + Sync, R: Threads + Wait 
     alloc: Global,
     hub: &Hub<K, L>,
     stores: Vec<MemStable>,
-    tally: Tally<L>,
+    tally: Tally<K, L>,
     course: Course,
-) -> Tally<L> {
+) -> Tally<K, L> {
     let mut stores = stores;
     for _ in course.number..3 {
         drop(stores.pop());
@@ -109,8 +109,8 @@ fn serve_node<K: HouseName, L: HubName, R: Wait + Clock>(
     store: MemStable,
     jobs: &Receiver<Ticket<K>>,
     link: &MemoryLink<'_, R>,
-    tally: Tally<L>,
-) -> Tally<L> {
+    tally: Tally<K, L>,
+) -> Tally<K, L> {
     let Some(node) = NodeId::new(number) else {
         return tally;
     };
@@ -142,7 +142,7 @@ where
     let tally = tallies.pop().unwrap();
     let tally = work(rt, alloc, &hub, stores, tally, course);
     tallies.push_reserved(tally);
-    let house = hub.close(tallies);
+    let (house, _) = hub.close(tallies);
     let events = house.events();
     drop(house.close(rt));
     Some(events)

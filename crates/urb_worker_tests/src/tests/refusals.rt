@@ -170,9 +170,9 @@ fn run_session<
         { is_answered(rt, alloc, &line, reader, sent, answered) },
     );
     tallies.push_reserved(tally);
-    let house = hub.close(tallies);
+    let (house, is_known) = hub.close(tallies);
     drop(house.close(rt));
-    Some(is_right)
+    Some(is_right && is_known)
 }
 
 // A submit, a crash, a restart, and a bad length. The submit is accepted, and the crash is done.

@@ -29,8 +29,8 @@ fn tick_sends<K: HouseName, L: HubName, R: Wait>(
     alloc: Global,
     hub: &Hub<K, L>,
     messages: u32,
-    tally: Tally<L>,
-) -> (usize, Tally<L>) {
+    tally: Tally<K, L>,
+) -> (usize, Tally<K, L>) {
     let node = NodeId::new(7).unwrap();
     let mut store = MemStable::new(alloc);
     let mut tally = tally;
@@ -70,7 +70,8 @@ fn run_ticks<K: HouseName, L: HubName, R: Wait>(
     let tally = tallies.pop().unwrap();
     let (packets, tally) = tick_sends(rt, alloc, &hub, messages, tally);
     tallies.push_reserved(tally);
-    drop(hub.close(tallies).close(rt));
+    let (house, _) = hub.close(tallies);
+    drop(house.close(rt));
     Some(packets)
 }
 

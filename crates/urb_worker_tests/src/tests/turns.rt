@@ -214,7 +214,7 @@ fn run_misrouted<K: HouseName, L: HubName, R: Wait>(
     );
     let crash = short_of(crash);
     tallies.push_reserved(tally);
-    let house = hub.close(tallies);
+    let (house, _) = hub.close(tallies);
     let events = house.events();
     drop(house.close(rt));
     Some((tick.ran, tick.said == Said::BadNode, crash.ran, events))

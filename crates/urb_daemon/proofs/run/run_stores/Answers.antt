@@ -1,6 +1,6 @@
 use Rattle.std.proofs.Common.{Err, Ok, inl, refl, rules, subst, ◌≡◌}
 use Rattle.urb_worker.proofs.ServedStores.{unserved}
-use Rattle.urb_daemon.proofs.RunsAfterStop.{ends-by-events, ends-opened, ends-without-network}
+use Rattle.urb_daemon.proofs.RunsAfterStop.{ends-by-events, stops-if-ended, ends-opened, ends-without-network}
 use Rattle.urb_daemon.proofs.RunsAfterStop.{refused-after-stop, served-after-stop}
 use Rattle.urb_daemon.proofs.StoresComeBack.{come_back, come_back_at_once}
 use Rattle.urb_daemon.specs.Runs.{limits_of}
@@ -45,6 +45,10 @@ returns-in-Ok-open_network-clause-ends g c =
     ends-opened g.S.Stable c.config.result (limits_of c.args.serving) c.args.stores.items
     call.result.1 c.in-Ok.group call.result.0.items run.result.0.items run.new.watch.is_told
     c.judge_end.result same c.in-Ok.is call.ensures.opens run.ensures.order
+    (stops-if-ended g.S.Stable c.config.result (limits_of c.args.serving) c.args.stores.items
+    call.result.1 c.in-Ok.group call.result.0.items run.result.0.items run.result.1
+    run.new.watch.is_told c.judge_end.result same c.in-Ok.is call.ensures.secured
+    call.ensures.size run.ensures.whole judged)
     (ends-by-events run.result.1 run.new.watch.is_told c.judge_end.result judged)
 
 pub returns-in-Err-open_network-clause-ends : goal.returns-in-Err-open_network-clause-ends
@@ -55,7 +59,7 @@ returns-in-Err-open_network-clause-ends g c =
     ends-opened g.S.Stable c.config.result (limits_of c.args.serving) c.args.stores.items
     call.result.1 c.in-Ok.group call.result.0.items call.result.0.items c.args.console.now.is_told
     (Err (Network fault)) same c.in-Ok.is call.ensures.opens (unserved g.S.Stable c.in-Ok.group call.result.0.items)
-    (ends-without-network fault c.args.console.now.is_told)
+    (λ known. tt) (ends-without-network fault c.args.console.now.is_told)
 
 pub returns-in-Err-clause-ends : goal.returns-in-Err-clause-ends
 returns-in-Err-clause-ends g c =
@@ -81,6 +85,10 @@ returns-in-Ok-open_network-clause-goes_on g c =
     served-after-stop g.S.Stable c.config.result (limits_of c.args.serving) c.args.stores.items
     call.result.1 c.in-Ok.group call.result.0.items run.result.0.items run.new.watch.is_told
     c.judge_end.result same c.in-Ok.is call.ensures.opens call.ensures.goes_on run.ensures.order
+    (stops-if-ended g.S.Stable c.config.result (limits_of c.args.serving) c.args.stores.items
+    call.result.1 c.in-Ok.group call.result.0.items run.result.0.items run.result.1
+    run.new.watch.is_told c.judge_end.result same c.in-Ok.is call.ensures.secured
+    call.ensures.size run.ensures.whole judged)
     (ends-by-events run.result.1 run.new.watch.is_told c.judge_end.result judged)
 
 pub returns-in-Err-open_network-clause-goes_on : goal.returns-in-Err-open_network-clause-goes_on
@@ -92,7 +100,7 @@ returns-in-Err-open_network-clause-goes_on g c =
     call.result.1 c.in-Ok.group call.result.0.items call.result.0.items c.args.console.now.is_told
     (Err (Network fault)) same c.in-Ok.is call.ensures.opens call.ensures.goes_on
     (unserved g.S.Stable c.in-Ok.group call.result.0.items)
-    (ends-without-network fault c.args.console.now.is_told)
+    (λ known. tt) (ends-without-network fault c.args.console.now.is_told)
 
 pub returns-in-Err-clause-goes_on : goal.returns-in-Err-clause-goes_on
 returns-in-Err-clause-goes_on g c =

@@ -1,24 +1,28 @@
-use Rattle.urb_worker.proofs.StoreKeeping.{waited}
-use Rattle.urb_worker.proofs.OtherNodes.{waited-leaves}
+use Rattle.std.proofs.Common.{subst, suc, sym}
+use Rattle.urb_group.specs.StoreContents.{IsLasting, IsStoreOf}
+use Rattle.urb_show.proofs.PastEvents.{after_none}
+use Rattle.urb_worker.proofs.OtherNodes.{rested-leaves, rested-store}
 use Rattle.urb_worker.proofs.laws.a_store_stays_that_of_its_node.Goals as goal
 
 pub returns-clause-opened : goal.returns-clause-opened
 returns-clause-opened g c cluster i store secured got =
+    let same = sym (after_none secured.stocked.world) in
     record {
-      world = secured.stocked.world;
-      shows = secured.stocked.shows;
-      contents = secured.stocked.stores i store got;
-      lasting = secured.lasting i store got;
+      contents =
+          subst (λ v. IsStoreOf g.S.Stable (v.node (suc i)) store) same
+          (secured.stocked.stores i store got);
+      lasting =
+          subst (λ v. IsLasting g.S.Stable (v.node (suc i)) store) same
+          (secured.lasting i store got);
     }
 
-pub returns-clause-waits : goal.returns-clause-waits
-returns-clause-waits g c n earlier later store h waits =
-    waited g.S.Stable n earlier later store waits h
-
 pub returns-clause-rests : goal.returns-clause-rests
-returns-clause-rests g c n group store h =
-    record { world = h.world; shows = h.shows; left = h.lasting.left }
+returns-clause-rests g c n start earlier later store h rested =
+    rested-store g.S.Stable start n earlier later store rested h
+
+pub returns-clause-left : goal.returns-clause-left
+returns-clause-left g c n start past store h = h.lasting.left
 
 pub returns-clause-leaves : goal.returns-clause-leaves
-returns-clause-leaves g c n earlier later store h waits =
-    waited-leaves g.S.Stable n earlier later store h waits
+returns-clause-leaves g c n start earlier later store h rested =
+    rested-leaves g.S.Stable start n earlier later store rested h

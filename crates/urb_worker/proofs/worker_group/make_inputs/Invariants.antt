@@ -1,4 +1,5 @@
-use Rattle.std.proofs.Common.{◌≡◌, ◌+◌, ◌++◌, ◌≤◌, reverse, vec_len, vec_capacity}
+use Rattle.std.proofs.Common.{◌≡◌, ◌+◌, ◌++◌, ◌≤◌, [], reverse, vec_len, vec_capacity}
+use Rattle.urb_worker.specs.LastLoans.{AllBegin}
 use Rattle.urb_worker.specs.ServedStores.{numbers_from}
 use Rattle.urb_worker.specs.internal.ServedStores.{each}
 use Rattle.urb_worker.proofs.worker_group.make_inputs.Given as goal
@@ -13,6 +14,7 @@ invariant-loop-store g l = record {
       ≡ l.initial.stores.items;
   numbered : reverse (each l.inputs.items (λ input. input.node)) ≡ numbers_from
       (vec_len l.stores + 1) (vec_len l.inputs);
+  begin : AllBegin l.tallies.items [];
 }
 
 abbrev pub decreases-loop-store : goal.decreases-loop-store

@@ -1,7 +1,15 @@
+use Rattle.urb_group.specs.GroupViews.{Shows}
+use Rattle.urb_group.specs.World.{World}
+use Rattle.urb_worker.specs.NodeStores.{IsStoreSince}
 use Rattle.urb_worker.specs.ServedStores.{HasServed}
 use Rattle.urb_worker.proofs.worker_loop.serve_from.Given as goal
 
 -- the jobs so far
 abbrev pub invariant-loop : goal.invariant-loop
-invariant-loop g l =
-    HasServed g.S.Stable g.K.HouseName.origin l.node l.fn.store l.store l.fn.outlets l.outlets
+invariant-loop g l = record {
+  served : HasServed g.S.Stable g.K.HouseName.origin l.node l.fn.store l.store l.fn.outlets
+      l.outlets;
+  keeps : (start : World) → Shows g.K.HouseName.origin start
+      → IsStoreSince g.S.Stable start l.fn.tally.last l.node l.fn.store
+      → IsStoreSince g.S.Stable start l.tally.last l.node l.store;
+}

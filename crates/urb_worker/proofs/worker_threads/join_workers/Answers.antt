@@ -1,6 +1,6 @@
 use Rattle.std.proofs.Common.{arith, rules}
 use Rattle.std.proofs.lemmas.List.{length_push}
-use Rattle.urb_worker.proofs.ServedStores.{one_left}
+use Rattle.urb_worker.proofs.ServedStores.{one_left, one_left_keeps_up}
 use Rattle.urb_worker.proofs.worker_threads.join_workers.Goals as goal
 
 pub loop-worker-preserved : goal.loop-worker-preserved
@@ -14,6 +14,10 @@ loop-worker-preserved g c = record {
   places = search rules;
   counts = search rules;
   order =
-      one_left g.S.Stable g.K.HouseName.origin _ _ _ _ _ _ _ c.loop-worker.invariant.order c.join_worker-store.ensures
-      c.push_reserved.ensures.items;
+      one_left g.S.Stable g.K.HouseName.origin _ _ _ _ _ _ _ c.loop-worker.invariant.order
+      c.join_worker-store.ensures.served c.push_reserved.ensures.items;
+  keeps =
+      one_left_keeps_up g.S.Stable g.K.HouseName.origin _ _ _ _ _ _ _ _ _ _
+      c.loop-worker.invariant.keeps c.join_worker-store.ensures.keeps
+      c.push_reserved.ensures.items c.push_reserved-in-loop-worker.ensures.items;
 }

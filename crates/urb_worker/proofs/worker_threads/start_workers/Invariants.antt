@@ -9,7 +9,7 @@ invariant-loop-input g l = record {
   queues : IfSome l.queues (λ kept. vec_len kept ≡ vec_len l.fn.queues);
   threads : IfSome l.queues (λ kept. AllThere l.workers.items);
   placed : each l.workers.items
-      (λ worker. in_either worker (λ thread. thread.promise.came.value) (λ left. left.came.value))
+      (λ worker. in_either worker (λ thread. thread.promise.came.value) (λ left. left.came))
       ++ reverse (each l.inputs.items (λ input. input.store)) ≡ reverse
       (each l.initial.inputs.items (λ input. input.store));
   numbered : each l.workers.items

@@ -1,4 +1,6 @@
-use Rattle.std.proofs.Common.{◌≡◌, ◌+◌, sum, vec_len, vec_capacity, ◌≤◌}
+use Rattle.std.proofs.Common.{IfSome, ◌≡◌, ◌+◌, vec_len, vec_capacity, ◌≤◌}
+use Rattle.urb_worker.specs.Counting.{events_in}
+use Rattle.urb_worker.specs.LastLoans.{AllBegin}
 use Rattle.urb_worker.proofs.hub.Hub.new.Given as goal
 
 abbrev pub invariant-loop-i : goal.invariant-loop-i
@@ -6,6 +8,8 @@ invariant-loop-i g l = record {
   parts : l.rest.parts + l._i ≡ l.nodes;
   amount : l.rest.amount ≡ 0;
   made : vec_len l.tallies ≡ l._i;
-  zero : sum l.tallies.items ≡ 0;
+  zero : events_in l.tallies.items ≡ 0;
+  begin : AllBegin l.tallies.items l.house.past;
+  ended : IfSome l.end (λ e. e ≡ l.house.past);
   room : l.nodes ≤ vec_capacity l.tallies;
 }

@@ -24,3 +24,7 @@ returns-clause-counted g c =
     (c.self.inside.count + c.finish_event-reply.result.events - c.self.inside.count)
     c.mark-lent.ensures.same c.mark.ensures.same
     c.finish_event-reply.ensures.step alone)
+
+-- the turn that began
+pub returns-clause-begun : goal.returns-clause-begun
+returns-clause-begun g c = rw (← c.self.view_is) c.self.invariant.1
