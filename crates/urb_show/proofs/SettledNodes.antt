@@ -36,4 +36,5 @@ settles place old mid new moment (Ok told) grew begins whole h present =
           ap (λ (t : ToldView). t.past) h.1
           ∙ (present ∙ sym (ap (λ (x : HouseView). x.past) h.0));
     }
-settles place old mid new moment (Err e) grew begins whole h present = subst (Grew place old) (sym h) grew
+settles place old mid new moment (Err e) grew begins whole h present =
+    subst (Grew place old) (sym h) grew

@@ -13,7 +13,8 @@ use Rattle.urb_show.specs.internal.PublishingRule.{IsIssue, NameView}
 use mathlib.Core.List.{IsPrefix}
 
 module _ (names : NameView) (x : Issue) (token : List Addition) (moment : List Event)
-    (good : IsIssue names x) (log : x.mark.log ≡ token) (events : IsPrefix x.events.log moment) where
+    (good : IsIssue names x) (log : x.mark.log ≡ token)
+    (events : IsPrefix x.events.log moment) where
   lists : x.lists ≡ lists_of names.base token
   lists = good.lists ∙ ap (lists_of names.base) log
 

@@ -124,8 +124,8 @@ impl<K: HouseName, A: Allocator> House<K, A> {
     /// what is new. It may wait for a reader that is in the middle of a read. It also publishes
     /// what an earlier refused call had prepared for other nodes.
     ///
-    /// What it publishes has its place in the history of events: the present moment, as `mark` gives
-    /// it. The token that it returns knows this moment.
+    /// What it publishes has its place in the history of events: the present moment, as `mark`
+    /// gives it. The token that it returns knows this moment.
     ///
     /// `NoMemory`: the published lists are as before, and a later call completes the work. It is
     /// also the result if the house has no moment.

@@ -44,7 +44,8 @@ pub fn readers_agree()
         AreOfOneHistory last.seen latest.seen → AgreeAcross first.seen other.seen }
     ensures pages { (opened : GroupView) (first last other latest : ReaderView)
         (p q place spot most more : ℕ) (a b : Page Global) →
-        GoesOn opened first last → GoesOn opened other latest → AreOfOneHistory last.seen latest.seen →
+        GoesOn opened first last → GoesOn opened other latest →
+        AreOfOneHistory last.seen latest.seen →
         IsPageOf (list_at first.seen p) place most a → IsPageOf (list_at other.seen q) spot more b →
         NeverContradict a b }
 {}

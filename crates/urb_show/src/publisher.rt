@@ -162,8 +162,8 @@ impl<K: HouseName, A: Allocator> Publisher<K, A> {
         }
     }
 
-    /// Publishes all that was added, and gives a token for it, with this moment. It waits for readers
-    /// that still have the older copy.
+    /// Publishes all that was added, and gives a token for it, with this moment. It waits for
+    /// readers that still have the older copy.
     pub(crate) fn publish<R: Wait>(
         &mut self,
         rt: &R,

@@ -116,11 +116,12 @@ impl<K: HouseName> ReadPosition<K> {
         max: u8,
     ) -> Result<Page<B>, ReadFault>
         requires { (node ≤ length K.base) × (1 ≤ first) }
-        // The page comes from lists that agree, and that begin with all that was seen and learnt. It
-        // is of what the node had delivered at a place of the history, behind all that the session
-        // knew.
+        // The page comes from lists that agree, and that begin with all that was seen and learnt.
+        // It is of what the node had delivered at a place of the history, behind all that the
+        // session knew.
         ensures page { IfOk result (λ p.
-            Takes K.origin self.old self.new × IsPageOf (list_at self.new.seen (node - 1)) first max p) }
+            Takes K.origin self.old self.new
+            × IsPageOf (list_at self.new.seen (node - 1)) first max p) }
         ensures refused { OnErr result (self.new ≡ self.old) }
     {
         reader.learn(Told::new(self.seen.copy(), self.moment.copy()));

@@ -68,8 +68,8 @@ impl<K: HouseName, A: Allocator> Model for LogReader<K, A> {
 }
 
 /// A token which says that lists were published: all lists of one moment. A reader that learns it
-/// reads no less from then on, and knows the moment. The token holds no list, so it is small and can
-/// go through a channel. Contracts see the lists, and all events until the moment.
+/// reads no less from then on, and knows the moment. The token holds no list, so it is small and
+/// can go through a channel. Contracts see the lists, and all events until the moment.
 #[derive(Drop)]
 pub struct Told<K: HouseName> {
     token: HistoryToken<K>,
@@ -151,11 +151,12 @@ impl<K: HouseName, A: Allocator> LogReader<K, A> {
         max: u8,
     ) -> Result<Page<B>, ReadFault>
         requires { (node ≤ length K.base) × (1 ≤ first) }
-        // The page comes from lists that agree, and that begin with all that was seen and learnt. It
-        // is of what the node had delivered at a place of the history, behind all that the reader
-        // knew.
+        // The page comes from lists that agree, and that begin with all that was seen and learnt.
+        // It is of what the node had delivered at a place of the history, behind all that the
+        // reader knew.
         ensures page { IfOk result (λ p.
-            Takes K.origin self.old self.new × IsPageOf (list_at self.new.seen (node - 1)) first max p) }
+            Takes K.origin self.old self.new
+            × IsPageOf (list_at self.new.seen (node - 1)) first max p) }
         // what a fault leaves
         ensures refused { IfErr result (λ fault. Leaves K.origin fault self.old self.new) }
     {

@@ -19,8 +19,8 @@ pub record NameView : Type 0 where
   pub origin : GroupView
   pub base : Lists
 
--- The value belongs to this house. Its lists are the lists of its history, and they agree. The nodes
--- had delivered them by the events that are published with them.
+-- The value belongs to this house. Its lists are the lists of its history, and they agree. The
+-- nodes had delivered them by the events that are published with them.
 pub record IsIssue (names : NameView) (x : Issue) : Type 0 where
   pub named : x.mark.book ≡ names.book
   pub lists : x.lists ≡ lists_of names.base x.mark.log

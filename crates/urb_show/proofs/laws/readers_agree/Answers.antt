@@ -8,7 +8,7 @@ returns-clause-across c opened first last other latest runs goes one =
     (goes_on_begins opened other latest goes) one
 
 pub returns-clause-pages : goal.returns-clause-pages
-returns-clause-pages c opened first last other latest p q place spot most more a b runs goes one here
-    there =
+returns-clause-pages c opened first last other latest p q place spot most more a b runs goes one
+    here there =
     readers_never_contradict opened first last other latest p q place spot most more a b runs goes
     one here there
