@@ -31,6 +31,7 @@ pub mod TimelyAdditions
 pub mod TakenLists
 pub mod SettledNodes
 pub mod AgreeingPages
+pub mod PlacedPages
 pub mod AcceptedEntries
 pub mod ServiceJoins
 pub mod ServiceNodes

@@ -12,9 +12,9 @@ use crate::history::calls::Happening;
 use crate::history::past::Past;
 use crate::history::tokens::{Book, EventToken, HouseName, OfEvents};
 use crate::moment::Moment;
-use crate::publisher::Publisher;
+use crate::publisher::{Publisher, history_is_full};
 use crate::reader::Told;
-use std::alloc::{AllocError, Allocator, Global};
+use std::alloc::{Allocator, Global};
 use std::marker::Model;
 use std::sync::Wait;
 use urb_group::{Group, NoMemory, NodeId};
@@ -137,7 +137,7 @@ impl<K: HouseName, A: Allocator> House<K, A> {
     {
         self.recall();
         let Some(moment) = self.mark() else {
-            return Err(NoMemory::from(AllocError));
+            return Err(history_is_full());
         };
         while self.has_unprepared(node) {
             self.prepare(node, &moment)?;

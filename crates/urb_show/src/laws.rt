@@ -59,6 +59,16 @@ pub fn who_learns_agrees()
         AreOfOneHistory token.lists last.seen }
 {}
 
+/// That readers agree follows from the places of what they saw. The lists that two readers saw were
+/// delivered at two places of one history. So for any two nodes and each sender, its entries in one
+/// list are a prefix of those in the other.
+pub fn lists_agree_by_their_places()
+    ensures { (opened : GroupView) (past later : List Event) (these those : Lists) →
+        IsSound opened → OneBegins past later →
+        AreDeliveredBy opened past these → AreDeliveredBy opened later those →
+        AgreeAcross these those }
+{}
+
 /// At a place of the history a node has stored a message under a name, as it has for each submit
 /// that it accepts. At any other place of the history, before or after it, every node's page has no
 /// other message under this name.

@@ -70,6 +70,11 @@ impl<K: HouseName, A: Allocator> Model for Publisher<K, A> {
         { book = K.book; history = K.history; origin = K.origin; base = K.base }) p.all };
 }
 
+/// The refusal of a history that takes nothing more.
+pub(crate) fn history_is_full() -> NoMemory {
+    NoMemory::from(AllocError)
+}
+
 impl<K: HouseName, A: Allocator> Publisher<K, A> {
     pub(crate) fn new(
         book: Book<Addition, OfAdditions<K>>,
@@ -120,7 +125,7 @@ impl<K: HouseName, A: Allocator> Publisher<K, A> {
         let added = all.add::<Addition, Add>(&self.book, &addition);
         self.known = all.copy();
         if !added {
-            return Err(NoMemory::from(AllocError));
+            return Err(history_is_full());
         }
         self.kept = Some(Operation {
             addition,
