@@ -4,10 +4,11 @@ use Rattle.std.proofs.Common.{subst, suc, sym, zero, ℕ, ⊎_elim, ◌++◌, �
 use Rattle.std.proofs.lemmas.List.Elements.{filter-append}
 use Rattle.urb_group.specs.DeliveredMessages.{Delivery, sent_by}
 use Rattle.urb_names.specs.Nodes.{numbers_from}
-use Rattle.urb_show.proofs.Prefixes.{prefix_length, prefix_trans}
+use Rattle.urb_group.specs.GroupViews.{GroupView}
+use Rattle.urb_show.proofs.Prefixes.{prefix_length, prefix_self, prefix_trans}
 use Rattle.urb_show.proofs.ListBeginnings.{begins_self, begins_trans}
 use Rattle.urb_show.specs.Readers.{AreOfOneHistory, GoesOn, HasLearnt, HasRead, ReaderView, Learns}
-use Rattle.urb_show.specs.Readers.{Rests, Takes}
+use Rattle.urb_show.specs.Readers.{Rests, Takes, ToldView}
 use Rattle.urb_show.specs.Lists.{Agree, AgreeAcross, Begins, Lists, OneBeginsAll, add_at}
 use Rattle.urb_show.specs.Lists.{delivery_of, list_at}
 use Rattle.urb_show.specs.declared.entry.Entry.{Entry}
@@ -107,42 +108,57 @@ of_one_history xs ys one left right =
           one_begins_across xs ys one left right;
     }
 
--- what a reader saw first is, node by node, a prefix of what it saw last
-pub goes_on_begins : (first last : ReaderView) → GoesOn first last → Begins first.seen last.seen
-goes_on_begins first last Rests = begins_self first.seen
-goes_on_begins first last (HasRead before after runs takes) =
-    begins_trans first.seen before.seen last.seen (goes_on_begins first before runs) takes.seen
-goes_on_begins first last (HasLearnt token before after runs learns) =
-    subst (λ (w : Lists). Begins first.seen w) (sym learns.seen) (goes_on_begins first before runs)
+module _ (opened : GroupView) where
+  -- what a reader saw first is, node by node, a prefix of what it saw last
+  pub goes_on_begins : (first last : ReaderView) → GoesOn opened first last
+      → Begins first.seen last.seen
+  goes_on_begins first last Rests = begins_self first.seen
+  goes_on_begins first last (HasRead before after runs takes) =
+      begins_trans first.seen before.seen last.seen (goes_on_begins first before runs) takes.seen
+  goes_on_begins first last (HasLearnt token before after runs learns) =
+      subst (λ (w : Lists). Begins first.seen w) (sym learns.seen)
+      (goes_on_begins first before runs)
 
--- what a reader saw first and what it sees in one more read are of one history
-pub goes_on_agrees : (first before last : ReaderView) → GoesOn first before → Takes before last
-    → AreOfOneHistory first.seen last.seen
-goes_on_agrees first before last runs then =
-    let seen =
-    begins_trans first.seen before.seen last.seen
-    (goes_on_begins first before runs) then.seen in
-    of_one_history first.seen last.seen (inl seen)
-    (agree_begins first.seen last.seen seen then.agree) then.agree
+  -- what a reader saw first and what it sees in one more read are of one history
+  pub goes_on_agrees : (first before last : ReaderView) → GoesOn opened first before
+      → Takes opened before last → AreOfOneHistory first.seen last.seen
+  goes_on_agrees first before last runs then =
+      let seen =
+      begins_trans first.seen before.seen last.seen
+      (goes_on_begins first before runs) then.seen in
+      of_one_history first.seen last.seen (inl seen)
+      (agree_begins first.seen last.seen seen then.agree) then.agree
 
--- what a reader had learnt first is, node by node, a prefix of what it had learnt last
-pub goes_on_told : (first last : ReaderView) → GoesOn first last → Begins first.told last.told
-goes_on_told first last Rests = begins_self first.told
-goes_on_told first last (HasRead before after runs takes) =
-    subst (λ (w : Lists). Begins first.told w) (sym takes.kept) (goes_on_told first before runs)
-goes_on_told first last (HasLearnt token before after runs learns) =
-    begins_trans first.told before.told last.told (goes_on_told first before runs) learns.earlier
+  -- what a reader had learnt first is, node by node, a prefix of what it had learnt last
+  pub goes_on_told : (first last : ReaderView) → GoesOn opened first last
+      → Begins first.told last.told
+  goes_on_told first last Rests = begins_self first.told
+  goes_on_told first last (HasRead before after runs takes) =
+      subst (λ (w : Lists). Begins first.told w) (sym takes.kept) (goes_on_told first before runs)
+  goes_on_told first last (HasLearnt token before after runs learns) =
+      begins_trans first.told before.told last.told (goes_on_told first before runs) learns.earlier
 
--- a reader that learnt a token takes lists that begin with the token's lists
-pub learnt_agrees : (token : Lists) (start first before last : ReaderView)
-    → Learns token start first → GoesOn first before → Takes before last
-    → AreOfOneHistory token last.seen
-learnt_agrees token start first before last learns runs then =
-    let told =
-    begins_trans token first.told before.told learns.told (goes_on_told first before runs) in
-    let seen = begins_trans token before.told last.seen told then.told in
-    of_one_history token last.seen (inl seen)
-    (agree_begins token last.seen seen then.agree) then.agree
+  -- the events that a reader knew first are a prefix of those that it knows last
+  pub goes_on_past : (first last : ReaderView) → GoesOn opened first last
+      → IsPrefix first.past last.past
+  goes_on_past first last Rests = prefix_self first.past
+  goes_on_past first last (HasRead before after runs takes) =
+      prefix_trans first.past before.past last.past (goes_on_past first before runs) takes.past
+  goes_on_past first last (HasLearnt token before after runs learns) =
+      prefix_trans first.past before.past last.past (goes_on_past first before runs)
+      learns.past.earlier
+
+  -- a reader that learnt a token takes lists that begin with the token's lists
+  pub learnt_agrees : (token : ToldView) (start first before last : ReaderView)
+      → Learns token start first → GoesOn opened first before → Takes opened before last
+      → AreOfOneHistory token.lists last.seen
+  learnt_agrees token start first before last learns runs then =
+      let told =
+      begins_trans token.lists first.told before.told learns.told
+      (goes_on_told first before runs) in
+      let seen = begins_trans token.lists before.told last.seen told then.told in
+      of_one_history token.lists last.seen (inl seen)
+      (agree_begins token.lists last.seen seen then.agree) then.agree
 
 -- prefixes, node by node, of two values of one history agree across
 pub earlier_across : (xs us ys vs : Lists) → Begins xs us → Begins ys vs → AreOfOneHistory us vs

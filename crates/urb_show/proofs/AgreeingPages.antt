@@ -7,6 +7,7 @@ use Rattle.std.proofs.lemmas.Bool.Decides.{nat_tests}
 use Rattle.std.proofs.lemmas.List.Elements.{Contains-append_left, Contains-append_right}
 use Rattle.urb_group.specs.DeliveredMessages.{Delivery, sent_by}
 use Rattle.urb_names.specs.Nodes.{numbers_from}
+use Rattle.urb_group.specs.GroupViews.{GroupView}
 use Rattle.urb_show.proofs.AgreeingLists.{agree_begins, earlier_across, goes_on_begins}
 use Rattle.urb_show.specs.Readers.{AreOfOneHistory, GoesOn, ReaderView}
 use Rattle.urb_show.specs.Lists.{Agree, AgreeAcross, Lists, delivery_of, entry_of, list_at}
@@ -16,7 +17,8 @@ use Rattle.urb_show.specs.declared.entry.Page.{Page}
 use mathlib.Core.List.{IsPrefix}
 
 module _ {A : Type 0} where
-  in_prefix : (xs ys : List A) (x : A) → IsPrefix xs ys → Contains xs x → Contains ys x
+  -- what is in a prefix of a list is in the list
+  pub in_prefix : (xs ys : List A) (x : A) → IsPrefix xs ys → Contains xs x → Contains ys x
   in_prefix xs ys x p h = subst (λ (l : List A). Contains l x) p.1 (Contains-append_left xs p.0 x h)
 
   in_take : (n : ℕ) (xs : List A) (x : A) → Contains (take n xs) x → Contains xs x
@@ -29,7 +31,8 @@ module _ {A : Type 0} where
       subst (λ (l : List A). Contains l x) (take-append-drop n xs)
       (Contains-append_right (take n xs) (drop n xs) x h)
 
-  in_map : {B : Type 0} (f : A → B) (xs : List A) (x : A) (k : ℕ) → k < length xs
+  -- what is in a list is, mapped, in the mapped list
+  pub in_map : {B : Type 0} (f : A → B) (xs : List A) (x : A) (k : ℕ) → k < length xs
       → slice_index_or xs k x ≡ x → Contains (map f xs) (f x)
   in_map f [] x k low is = absurd (omega (arith, low))
   in_map f (y ∷ xs) x zero low is = (zero, omega arith, ap f is)
@@ -77,16 +80,21 @@ in_sent s (y ∷ ds) d (suc k) his low is =
     by true test rest = let lt = rest.1 in rw test (suc rest.0, omega (arith, lt), rest.2)
     by false test rest = rw test rest
 
+-- an entry of a page is in the list
+pub in_page : {A : Type 0} (list : List Entry) (first max : ℕ) (page : Page A) (e : Entry)
+    → IsPageOf list first max page → Contains page.entries.items e → Contains list e
+in_page list first max page e is h =
+    let part : Contains (take max (drop (first - 1) list)) e =
+    subst (λ (l : List Entry). Contains l e) is.entries h in
+    in_drop (first - 1) list e (in_take max (drop (first - 1) list) e part)
+
 -- an entry of a page is in its sender's part of the list
 in_list : {A : Type 0} (list : List Entry) (first max : ℕ) (page : Page A) (e : Entry)
     → IsPageOf list first max page → Contains page.entries.items e
     → (e.name.sender == e.name.sender) ≡ true
     → Contains (sent_by e.name.sender (map delivery_of list)) (delivery_of e)
 in_list list first max page e is h his =
-    let part : Contains (take max (drop (first - 1) list)) e =
-    subst (λ (l : List Entry). Contains l e) is.entries h in
-    let whole : Contains list e =
-    in_drop (first - 1) list e (in_take max (drop (first - 1) list) e part) in
+    let whole : Contains list e = in_page list first max page e is h in
     let told : Contains (map delivery_of list) (delivery_of e) =
     in_map delivery_of list e whole.0 whole.1 whole.2 in
     in_sent e.name.sender (map delivery_of list) (delivery_of e) told.0 his told.1 told.2
@@ -117,14 +125,15 @@ never_contradict xs ys p q first second most more a b left right across page_a p
 
 -- pages that two readers of one history saw, at any moments, never have different entries with one
 -- name
-pub readers_never_contradict : {A B : Type 0} (first last other latest : ReaderView)
-    (p q place spot most more : ℕ) (a : Page A) (b : Page B) → GoesOn first last
-    → GoesOn other latest
+pub readers_never_contradict : {A B : Type 0} (opened : GroupView)
+    (first last other latest : ReaderView)
+    (p q place spot most more : ℕ) (a : Page A) (b : Page B)
+    → GoesOn opened first last → GoesOn opened other latest
     → AreOfOneHistory last.seen latest.seen → IsPageOf (list_at first.seen p) place most a
     → IsPageOf (list_at other.seen q) spot more b → NeverContradict a b
-readers_never_contradict first last other latest p q place spot most more a b runs goes one =
-    let begins = goes_on_begins first last runs in
-    let begin = goes_on_begins other latest goes in
+readers_never_contradict opened first last other latest p q place spot most more a b runs goes one =
+    let begins = goes_on_begins opened first last runs in
+    let begin = goes_on_begins opened other latest goes in
     never_contradict first.seen other.seen p q place spot most more a b
     (agree_begins _ _ begins one.these_agree) (agree_begins _ _ begin one.those_agree)
     (earlier_across _ _ _ _ begins begin one)

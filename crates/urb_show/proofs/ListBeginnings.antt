@@ -6,6 +6,9 @@ use mathlib.Core.List.{IsPrefix}
 use Rattle.urb_show.specs.declared.entry.Entry.{Entry}
 use Rattle.urb_show.specs.declared.entry.Addition.{Addition}
 use Rattle.urb_show.specs.Lists.{Agree, Begins, Lists, OneBeginsAll, add_at}
+use Rattle.urb_group.specs.GroupViews.{GroupView}
+use Rattle.urb_group.specs.Step.{Event}
+use Rattle.urb_show.specs.DeliveredLists.{AreDeliveredBy}
 use Rattle.urb_show.specs.Readers.{Learns, ReaderView, Takes}
 use Rattle.urb_show.specs.Additions.{lists_of}
 use Rattle.urb_show.proofs.Prefixes.{prefix_self, prefix_trans}
@@ -58,11 +61,14 @@ longer_begins base one other longest (inr same) p q =
     inl (begins_later base one other (subst (λ (w : List Addition). IsPrefix one w) same p))
 
 -- what a reader takes begins with what it knew, if the histories do
-pub takes : (base : Lists) (seen told now : List Addition) (before : ReaderView)
-    → record { seen = lists_of base seen; told = lists_of base told } ≡ before
-    → IsPrefix seen now → IsPrefix told now → Agree (lists_of base now)
-    → Takes before (record { seen = lists_of base now; told = lists_of base told })
-takes base seen told now before is p q agree = record {
+pub takes : (opened : GroupView) (base : Lists) (seen told now : List Addition)
+    (past later : List Event) (before : ReaderView)
+    → record { seen = lists_of base seen; told = lists_of base told; past = past } ≡ before
+    → IsPrefix seen now → IsPrefix told now → Agree (lists_of base now) → IsPrefix past later
+    → AreDeliveredBy opened later (lists_of base now)
+    → Takes opened before
+    (record { seen = lists_of base now; told = lists_of base told; past = later })
+takes opened base seen told now past later before is p q agree grows delivered = record {
   agree = agree;
   seen =
       subst (λ (k : ReaderView). Begins k.seen (lists_of base now)) is
@@ -71,18 +77,25 @@ takes base seen told now before is p q agree = record {
       subst (λ (k : ReaderView). Begins k.told (lists_of base now)) is
       (begins_later base told now q);
   kept = ap (λ (k : ReaderView). k.told) is;
+  past = subst (λ (k : ReaderView). IsPrefix k.past later) is grows;
+  delivered = delivered;
 }
 
 -- A reader that learnt what a position has seen, and what it has learnt, takes lists that begin
--- with both.
-pub takes_through : (seen told : Lists) (first second third last : ReaderView)
-    → Learns seen first second → Learns told second third → Takes third last
-    → Takes (record { seen = seen; told = told }) (record { seen = last.seen; told = told })
-takes_through seen told first second third last one two three = record {
+-- with both, at a place behind the position's moment.
+pub takes_through : (opened : GroupView) (position first second third last : ReaderView)
+    → Learns (record { lists = position.seen; past = position.past }) first second
+    → Learns (record { lists = position.told; past = position.past }) second third
+    → Takes opened third last
+    → Takes opened position
+    (record { seen = last.seen; told = position.told; past = last.past })
+takes_through opened position first second third last one two three = record {
   agree = three.agree;
   seen =
-      begins_trans seen second.told last.seen one.told
+      begins_trans position.seen second.told last.seen one.told
       (begins_trans second.told third.told last.seen two.earlier three.told);
-  told = begins_trans told third.told last.seen two.told three.told;
+  told = begins_trans position.told third.told last.seen two.told three.told;
   kept = refl;
+  past = prefix_trans position.past third.past last.past two.past.told three.past;
+  delivered = three.delivered;
 }

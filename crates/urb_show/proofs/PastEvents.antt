@@ -10,7 +10,7 @@ use Rattle.urb_show.proofs.GroupLists.{MayFollow}
 use Rattle.urb_show.proofs.PastPrefixes.{prefix_more}
 use Rattle.urb_show.specs.Houses.{next_count}
 use Rattle.urb_group.specs.RecoveryPlans.{after}
-use Rattle.urb_show.specs.Pasts.{IsLedTo, IsReachedBy}
+use Rattle.urb_show.specs.Pasts.{IsLedTo}
 use Rattle.urb_show.specs.internal.PreparedLists.{HasPast}
 use mathlib.Core.List.{IsPrefix}
 

@@ -3,25 +3,26 @@ use Rattle.std.proofs.Common.{◌≡◌, ℕ, zero, suc, ◌≤◌, ◌≢◌, L
 use Rattle.std.proofs.Common.{⊎_elim, le_refl, le_trans, zero-le}
 use mathlib.Core.Option.{some}
 use lib.ListN.{get_elem?}
-use Rattle.logbook.specs.Pages.{Book}
 use Rattle.left_right.specs.Register.{Admits, TurnsAt}
 use Rattle.atomic_table.proofs.Lists.{at_set, at_snoc}
 use mathlib.Core.List.{IsPrefix}
 use Rattle.std.proofs.Common.{ap, sym, ◌∙◌, fold, ◌++◌, Option, Some, None}
 use Rattle.std.specs.Option.{MatchOption}
+use Rattle.urb_group.specs.GroupViews.{IsSound}
 use Rattle.urb_show.specs.declared.entry.Addition.{Addition}
 use Rattle.urb_show.specs.declared.published_lists.ListsState.{ListsState}
 use Rattle.urb_show.specs.declared.published_lists.Operation.{Operation}
 use Rattle.urb_show.specs.internal.Operations.{state_of, applied_to}
-use Rattle.urb_show.specs.Lists.{Lists, Agree}
+use Rattle.urb_show.specs.Lists.{Agree}
 use Rattle.urb_show.specs.Additions.{lists_of}
 use Rattle.urb_show.specs.internal.History.{Issue, issue_of}
-use Rattle.urb_show.proofs.Prefixes.{prefix_length, prefix_trans}
-use Rattle.urb_show.specs.internal.PublishingRule.{IsIssue, Keeps, Rises}
+use Rattle.urb_show.proofs.Prefixes.{prefix_length, prefix_self, prefix_trans}
+use Rattle.urb_show.specs.internal.PublishingRule.{AreTimely, IsIssue, IsTimely, Keeps, NameView}
+use Rattle.urb_show.specs.internal.PublishingRule.{Rises}
 
 -- a new reader that has seen nothing leaves the rule kept
-pub admits : (book : Book) (base : Lists) → Admits (Keeps book base) 0
-admits book base x views h = (
+pub admits : (names : NameView) → Admits (Keeps names) 0
+admits names x views h = (
   h.0,
   λ seat v at. ⊎_elim (h.1 seat v)
       (λ (e : 0 ≡ v). subst (λ (z : ℕ). z ≤ length x.mark.log) e zero-le) (at_snoc views 0 v seat at),
@@ -31,18 +32,32 @@ no_views : (n seat v : ℕ) → get_elem? [] seat ≡ some v → v ≤ n
 no_views n zero v at = absurd (cc (at))
 no_views n (suc seat) v at = absurd (cc (at))
 
+-- what these additions make is a value of this house, if their lists agree and were delivered
+pub is_issue : (names : NameView) (log : List Addition) → Agree (lists_of names.base log)
+    → IsSound names.origin → IsTimely names log
+    → IsIssue names (issue_of names.book names.history names.base log)
+is_issue names log agree sound timely = record {
+  named = refl;
+  lists = refl;
+  agree = agree;
+  sound = sound;
+  events_named = timely.named;
+  delivered = timely.delivered;
+}
+
 -- what a house publishes first keeps the rule, with one reader that has seen nothing
-pub first_issue : (book : Book) (base : Lists) (x : Issue) → x ≡ issue_of book base [] → Agree base
-    → Keeps book base x (0 ∷ [])
-first_issue book base x is agree =
-    let good : IsIssue book base x = rw is (record { named = refl; lists = refl; agree = agree }) in
-    admits book base x [] (good, no_views (length x.mark.log))
+pub first_issue : (names : NameView) (x : Issue)
+    → x ≡ issue_of names.book names.history names.base [] → Agree names.base
+    → IsSound names.origin → IsTimely names [] → Keeps names x (0 ∷ [])
+first_issue names x is agree sound timely =
+    let good : IsIssue names x = rw is (is_issue names [] agree sound timely) in
+    admits names x [] (good, no_views (length x.mark.log))
 
 -- a reader's step keeps the rule if the published history becomes no shorter
-pub rises : (book : Book) (base : Lists) (seat v : ℕ) (x y : Issue)
-    → length x.mark.log ≤ length y.mark.log → (IsIssue book base x → IsIssue book base y)
-    → TurnsAt (Keeps book base) seat v x y (Rises book base)
-rises book base seat v x y up good views h at = let top = length y.mark.log in (
+pub rises : (names : NameView) (seat v : ℕ) (x y : Issue)
+    → length x.mark.log ≤ length y.mark.log → (IsIssue names x → IsIssue names y)
+    → TurnsAt (Keeps names) seat v x y (Rises names)
+rises names seat v x y up good views h at = let top = length y.mark.log in (
   top,
   (
     good h.0,
@@ -53,40 +68,46 @@ rises book base seat v x y up good views h at = let top = length y.mark.log in (
   (h.0, h.1 seat v at, refl),
 )
 
--- two published values with the same lists and history are equal
+-- two published values with the same lists, history and events are equal
 pub same_issue : (x y : Issue) → state_of x ≡ state_of y → x ≡ y
-same_issue x y is = ap (λ (s : ListsState). record { lists = s.lists; mark = s.mark }) is
+same_issue x y is =
+    ap (λ (s : ListsState). record { lists = s.lists; mark = s.mark; events = s.events }) is
 
 -- the writer's step: what it has is published, and that is no shorter
-pub turns : (book : Book) (base : Lists) (shown all : List Addition) (x next : Issue)
-    (pending : List Operation) (seat v : ℕ) → x ≡ issue_of book base shown
-    → fold applied_to (state_of (issue_of book base shown)) pending ≡ state_of
-    (issue_of book base all) → IsPrefix shown all → Agree (lists_of base all)
+pub turns : (names : NameView) (shown all : List Addition) (x next : Issue)
+    (pending : List Operation) (seat v : ℕ)
+    → x ≡ issue_of names.book names.history names.base shown
+    → fold applied_to (state_of (issue_of names.book names.history names.base shown)) pending
+    ≡ state_of (issue_of names.book names.history names.base all)
+    → IsPrefix shown all → Agree (lists_of names.base all) → IsSound names.origin
+    → AreTimely names all
     → state_of next ≡ fold applied_to (state_of x) pending
-    → TurnsAt (Keeps book base) seat v x next (Rises book base)
-turns book base shown all x next pending seat v was after pre agree is =
-    let now : next ≡ issue_of book base all =
-    same_issue next (issue_of book base all)
+    → TurnsAt (Keeps names) seat v x next (Rises names)
+turns names shown all x next pending seat v was after pre agree sound timely is =
+    let now : next ≡ issue_of names.book names.history names.base all =
+    same_issue next (issue_of names.book names.history names.base all)
     (is ∙ (ap (λ (i : Issue). fold applied_to (state_of i) pending) was ∙ after)) in
     let le : length x.mark.log ≤ length next.mark.log =
     rw (was, now) (prefix_length shown all pre) in
-    let good : IsIssue book base next =
-    rw now (record { named = refl; lists = refl; agree = agree }) in
-    rises book base seat v x next le (λ _. good)
+    let good : IsIssue names next =
+    rw now (is_issue names all agree sound (timely all (prefix_self all))) in
+    rises names seat v x next le (λ _. good)
 
 -- once nothing waits, all additions are published, and the writer has nothing pending
-pub now_published : (book : Book) (base : Lists) (shown queued all again : List Addition)
-    (x y : Issue) (pending rest : List Operation) → x ≡ issue_of book base shown
-    → fold applied_to (state_of (issue_of book base shown)) pending ≡ state_of
-    (issue_of book base queued) → queued ≡ all → again ≡ all
+pub now_published : (names : NameView) (shown queued all again : List Addition)
+    (x y : Issue) (pending rest : List Operation)
+    → x ≡ issue_of names.book names.history names.base shown
+    → fold applied_to (state_of (issue_of names.book names.history names.base shown)) pending
+    ≡ state_of (issue_of names.book names.history names.base queued)
+    → queued ≡ all → again ≡ all
     → (state_of y ≡ fold applied_to (state_of x) pending) × (rest ≡ [])
-    → (y ≡ issue_of book base again)
-    × (fold applied_to (state_of (issue_of book base again)) rest ≡ state_of
-    (issue_of book base queued))
-now_published book base shown queued all again x y pending rest was after flushed same now =
+    → (y ≡ issue_of names.book names.history names.base again)
+    × (fold applied_to (state_of (issue_of names.book names.history names.base again)) rest
+    ≡ state_of (issue_of names.book names.history names.base queued))
+now_published names shown queued all again x y pending rest was after flushed same now =
     let top : again ≡ queued = same ∙ sym flushed in
-    let y_is : y ≡ issue_of book base queued =
-    same_issue y (issue_of book base queued)
+    let y_is : y ≡ issue_of names.book names.history names.base queued =
+    same_issue y (issue_of names.book names.history names.base queued)
     (now.0 ∙ (ap (λ (i : Issue). fold applied_to (state_of i) pending) was ∙ after)) in
     (rw top y_is, rw (top, now.1) refl)
 

@@ -1,5 +1,5 @@
 -- The place of an event in a history, and its reply there.
-use Rattle.std.proofs.Common.{Err, IfOk, List, Ok, Result, Some, [], ap, if◌then◌else◌, is_ok}
+use Rattle.std.proofs.Common.{Err, IfOk, List, Ok, Result, Some, [], if◌then◌else◌, is_ok}
 use Rattle.std.proofs.Common.{length}
 use Rattle.std.proofs.Common.{refl, slice_get, subst, suc, sym, take, zero, ℕ, ◌++◌, ◌∙◌, ◌∷◌, ◌≡◌}
 use Rattle.std.proofs.lemmas.List.{append-nil}

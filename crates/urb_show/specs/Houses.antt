@@ -4,6 +4,7 @@ use Rattle.logbook.specs.Pages.{Book}
 use Rattle.urb_group.specs.GroupViews.{GroupView}
 use Rattle.urb_group.specs.Step.{Event}
 use Rattle.urb_show.specs.Lists.{Lists, list_at, lists_in}
+use Rattle.urb_show.specs.Readers.{ToldView}
 
 -- The group, the lists that are published, the lists that were prepared for the next settling, the
 -- number of events, and the events themselves.
@@ -42,15 +43,16 @@ pub record Grew (place : ℕ) (before after : HouseView) : Type 0 where
   pub others : (q : ℕ) → place ≢ q → list_at after.prepared q ≡ list_at before.prepared q
 
 -- The node's published list is its entries, and each other list is the one that had been prepared.
--- The token stands for all lists that are published.
-pub record Settled (place : ℕ) (before after : HouseView) (token : Lists) : Type 0 where
+-- The token stands for all lists that are published, and for all events so far.
+pub record Settled (place : ℕ) (before after : HouseView) (token : ToldView) : Type 0 where
   pub group : after.group ≡ before.group
   pub events : after.events ≡ before.events
   pub past : after.past ≡ before.past
   pub own : list_at after.published place ≡ list_at (lists_in after.group) place
   pub others : (q : ℕ) → place ≢ q → list_at after.published q ≡ list_at before.prepared q
   pub prepared : after.prepared ≡ after.published
-  pub told : token ≡ after.published
+  pub told : token.lists ≡ after.published
+  pub until : token.past ≡ after.past
 
 -- a house that was just opened: all that its group has delivered is published
 abbrev pub opened_house : GroupView → Lists → HouseView

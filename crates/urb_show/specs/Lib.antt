@@ -1,6 +1,7 @@
 pub mod Lists
 pub mod Houses
 pub mod Pasts
+pub mod DeliveredLists
 pub mod Readers
 pub mod Pages
 pub mod ReadFaults

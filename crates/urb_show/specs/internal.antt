@@ -1,4 +1,5 @@
 pub mod PreparedLists
+pub mod Marks
 pub mod History
 pub mod Pasts
 pub mod Operations

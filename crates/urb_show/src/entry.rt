@@ -1,6 +1,8 @@
 //! Entries of a node's log, and pages of them.
 ghost use Rattle.std.specs.Prelude.{◌≡◌, IfOk};
 
+use crate::history::calls::Happening;
+use crate::history::tokens::Mark;
 use std::alloc::{Allocator, Global};
 use urb_group::{Message, Name, NoMemory};
 
@@ -36,9 +38,11 @@ pub struct Page<A: Allocator = Global> {
     pub total: u32,
 }
 
-/// One more entry of a node, with the node's place in the lists.
+/// One more entry of a node, with the node's place in the lists, and all events until the node had
+/// delivered it, or more.
 #[derive(Drop)]
 pub(crate) struct Addition {
     pub(crate) place: usize,
     pub(crate) entry: Entry,
+    pub(crate) events: Mark<Happening>,
 }

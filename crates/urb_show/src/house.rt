@@ -11,7 +11,8 @@ use crate::group_entries::{entry_at, entry_count};
 use crate::history::calls::Happening;
 use crate::history::past::Past;
 use crate::history::tokens::{Book, EventToken, HouseName, OfEvents};
-use crate::publisher::Publisher;
+use crate::moment::Moment;
+use crate::publisher::{Publisher, history_is_full};
 use crate::reader::Told;
 use std::alloc::{Allocator, Global};
 use std::marker::Model;
@@ -97,9 +98,10 @@ impl<K: HouseName, A: Allocator> House<K, A> {
         self.prepared[place] < entry_count(&self.group, node)
     }
 
-    // Prepares the node's next entry.
-    fn prepare(&mut self, node: NodeId) -> Result<(), NoMemory>
+    // Prepares the node's next entry, at the present moment.
+    fn prepare(&mut self, node: NodeId, moment: &Moment<K>) -> Result<(), NoMemory>
         requires node { node ≤ length self.old.group.nodes }
+        requires moment { moment.now ≡ self.old.past }
         requires lacks { Lacks (node - 1) self.old }
         ensures { MatchResult result
             (λ _. GrewByOne (node - 1) self.old self.new) (λ _. self.new ≡ self.old) }
@@ -109,7 +111,11 @@ impl<K: HouseName, A: Allocator> House<K, A> {
         let index = self.prepared[place];
         self.group.recall_deliveries();
         let entry = entry_at(*self.prepared.allocator(), &self.group, node, index)?;
-        self.publisher.add(Addition { place, entry })?;
+        self.publisher.add(Addition {
+            place,
+            entry,
+            events: moment.token().mark(),
+        })?;
         self.prepared[place] = index + 1;
         Ok(())
     }
@@ -118,7 +124,11 @@ impl<K: HouseName, A: Allocator> House<K, A> {
     /// what is new. It may wait for a reader that is in the middle of a read. It also publishes
     /// what an earlier refused call had prepared for other nodes.
     ///
-    /// `NoMemory`: the published lists are as before, and a later call completes the work.
+    /// What it publishes has its place in the history of events: the present moment, as `mark`
+    /// gives it. The token that it returns knows this moment.
+    ///
+    /// `NoMemory`: the published lists are as before, and a later call completes the work. It is
+    /// also the result if the house has no moment.
     pub fn settle<R: Wait>(&mut self, rt: &R, node: NodeId) -> Result<Told<K>, NoMemory>
         requires { node ≤ length K.base }
         ensures { MatchResult result
@@ -126,20 +136,24 @@ impl<K: HouseName, A: Allocator> House<K, A> {
             (λ _. Grew (node - 1) self.old self.new) }
     {
         self.recall();
+        let Some(moment) = self.mark() else {
+            return Err(history_is_full());
+        };
         while self.has_unprepared(node) {
-            self.prepare(node)?;
+            self.prepare(node, &moment)?;
         }
-        self.publish(rt)
+        self.publish(rt, moment)
     }
 
-    // Publishes what was prepared.
-    fn publish<R: Wait>(&mut self, rt: &R) -> Result<Told<K>, NoMemory>
+    // Publishes what was prepared. The token knows this moment.
+    fn publish<R: Wait>(&mut self, rt: &R, moment: Moment<K>) -> Result<Told<K>, NoMemory>
         ensures { MatchResult result
             (λ told. (self.new ≡ record self.old { published = self.old.prepared })
-            × (told ≡ self.old.prepared)) (λ _. self.new ≡ self.old) }
+            × (told ≡ record { lists = self.old.prepared; past = moment }))
+            (λ _. self.new ≡ self.old) }
     {
         self.publisher.flush()?;
-        self.publisher.publish(rt)
+        self.publisher.publish(rt, moment)
     }
 
     /// Ends the house, and returns the group in its present state. It allocates nothing, and may

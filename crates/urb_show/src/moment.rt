@@ -29,6 +29,12 @@ impl<K: HouseName> Moment<K> {
         Moment { token }
     }
 
+    pub(crate) fn token(&self) -> &EventToken<K>
+        ensures { result.now ≡ self.now }
+    {
+        &self.token
+    }
+
     /// The number of events until then. It is the place of the event that comes next.
     pub fn place(&self) -> u64
         ensures { result ≡ length self.now }

@@ -1,6 +1,8 @@
 //! A group that is opened for readers, before its house has a name.
 ghost use Rattle.std.specs.Prelude.{◌≡◌, ◌<◌, ◌*◌, ◌^◌, [], length, drop, map, All};
 ghost use Rattle.std.specs.Prelude.{MatchResult, IfOk};
+ghost use Rattle.urb_group.specs.GroupViews.{IsSound};
+ghost use Rattle.urb_show.specs.DeliveredLists.{AreDeliveredBy};
 ghost use Rattle.urb_show.specs.Lists.{Agree, lists_in};
 ghost use Rattle.urb_show.specs.internal.History.{issue_of};
 ghost use Rattle.urb_show.specs.Houses.{IsNamed, opened_house};
@@ -13,10 +15,11 @@ use crate::history::past::Past;
 use crate::history::rule::Grows;
 use crate::history::tokens::{HouseName, OfAdditions, OfEvents, UnnamedBook};
 use crate::house::House;
+use crate::moment::Moment;
 use crate::published_lists::PublishedLists;
 use crate::publisher::{LogWriter, Publisher};
 use crate::reader::LogReader;
-use left_right::reader::Factory;
+use left_right::reader::{Factory, Reader};
 use left_right::writer::Writer;
 use std::alloc::{Allocator, Global};
 use std::marker::{Brand, Model};
@@ -88,7 +91,7 @@ impl Opened {
             (λ t. t.0 ≡ opened_house self.group K.base) (λ e. e.0 ≡ self) }
         ensures readers { IfOk result (λ t. length t.1.items ≡ READERS * self.group.size.n) }
         ensures known { IfOk result (λ t.
-            All (λ r. r ≡ record { seen = K.base; told = K.base }) t.1.items) }
+            All (λ r. r ≡ record { seen = K.base; told = K.base; past = [] }) t.1.items) }
     {
         self.parts_in::<K, R, Global>(rt, alloc, alloc)
     }
@@ -108,7 +111,7 @@ impl Opened {
             (λ t. t.0 ≡ opened_house self.group K.base) (λ e. e.0 ≡ self) }
         ensures readers { IfOk result (λ t. length t.1.items ≡ READERS * self.group.size.n) }
         ensures known { IfOk result (λ t.
-            All (λ r. r ≡ record { seen = K.base; told = K.base }) t.1.items) }
+            All (λ r. r ≡ record { seen = K.base; told = K.base; past = [] }) t.1.items) }
     {
         let Opened {
             group,
@@ -117,7 +120,7 @@ impl Opened {
         } = self;
         group.recall_deliveries();
         let count = READERS * usize::from(group.config().n());
-        let made = make_writer::<K, A>(alloc, memory, &group, &unnamed, count);
+        let made = make_writer::<K, A>(alloc, memory, &group, &unnamed, &events, count);
         let (writer, prepared) = match made {
             Ok(made) => made,
             Err(refused) => return Err((
@@ -130,7 +133,7 @@ impl Opened {
             )),
         };
         let factory = writer.factory();
-        let readers = match make_readers::<K, A>(memory, &factory, &unnamed, count) {
+        let readers = match make_readers::<K, A>(memory, &factory, &unnamed, &events, count) {
             Ok(readers) => readers,
             Err(refused) => {
                 drop(writer.take(rt));
@@ -165,20 +168,22 @@ fn make_writer<K: HouseName, A: Allocator + Copy>(
     memory: A,
     group: &Group,
     unnamed: &UnnamedBook<Addition>,
+    events: &UnnamedBook<Happening>,
     count: usize,
 ) -> Result<(LogWriter<K, A>, Vec<usize>), NoMemory>
-    requires names { (unnamed.now.seen.book ≡ K.book) × (lists_in group.now ≡ K.base) }
+    requires names { (unnamed.now.seen.book ≡ K.book) × (events.now.seen.book ≡ K.history)
+        × (group.now ≡ K.origin) × (lists_in group.now ≡ K.base) }
     requires count { (0 < count) × (count < 2 ^ 32) }
     ensures { IfOk result (λ t.
-        (t.0.desk.shown.value ≡ issue_of K.book K.base [])
+        (t.0.desk.shown.value ≡ issue_of K.book K.history K.base [])
         × (drop t.0.behind t.0.log.items ≡ [])
         × (t.1.items ≡ map length K.base)) }
 {
     group.recall_deliveries();
     let (first, prepared) = copy_lists(alloc, group)?;
     let (second, _) = copy_lists(alloc, group)?;
-    let first = PublishedLists::new(first, unnamed.mark());
-    let second = PublishedLists::new(second, unnamed.mark());
+    let first = PublishedLists::new(first, unnamed.mark(), events.mark());
+    let second = PublishedLists::new(second, unnamed.mark(), events.mark());
     let writer = Writer::new(memory, first, second, count)?;
     Ok((writer, prepared))
 }
@@ -203,24 +208,44 @@ fn copy_lists(alloc: Global, group: &Group) -> Result<(Vec<Vec<Entry>>, Vec<usiz
     Ok((lists, counts))
 }
 
+// A reader at the opening: it has seen the empty history, and knows no event.
+fn begin_reader<K: HouseName, A: Allocator>(
+    reader: Reader<PublishedLists, u64, Grows<K>, A>,
+    unnamed: &UnnamedBook<Addition>,
+    events: &UnnamedBook<Happening>,
+) -> LogReader<K, A>
+    requires name { (unnamed.now.seen.book ≡ K.book) × (events.now.seen.book ≡ K.history) }
+    requires agree { Agree K.base }
+    requires sound { IsSound K.origin }
+    requires delivered { AreDeliveredBy K.origin [] K.base }
+    ensures { result ≡ record { seen = K.base; told = K.base; past = [] } }
+{
+    let token = unnamed.mark().token::<OfAdditions<K>>();
+    let moment = Moment::new(events.mark().token::<OfEvents<K>>());
+    LogReader::new(reader, token, moment)
+}
+
 // `count` readers, which have seen the empty history.
 fn make_readers<K: HouseName, A: Allocator + Copy>(
     alloc: A,
     factory: &Factory<PublishedLists, u64, Grows<K>, A>,
     unnamed: &UnnamedBook<Addition>,
+    events: &UnnamedBook<Happening>,
     count: usize,
 ) -> Result<Vec<LogReader<K, A>, A>, NoMemory>
-    requires name { unnamed.now.seen.book ≡ K.book }
+    requires name { (unnamed.now.seen.book ≡ K.book) × (events.now.seen.book ≡ K.history) }
     requires agree { Agree K.base }
+    requires sound { IsSound K.origin }
+    requires delivered { AreDeliveredBy K.origin [] K.base }
     ensures count { IfOk result (λ v. length v.items ≡ count) }
     ensures known { IfOk result (λ v.
-        All (λ r. r ≡ record { seen = K.base; told = K.base }) v.items) }
+        All (λ r. r ≡ record { seen = K.base; told = K.base; past = [] }) v.items) }
 {
     let mut readers = Vec::new(alloc);
     readers.reserve(count)?;
     for _ in 0..count {
         let reader = factory.reader()?;
-        readers.push_reserved(LogReader::new(reader, unnamed.mark().token::<OfAdditions<K>>()));
+        readers.push_reserved(begin_reader::<K, A>(reader, unnamed, events));
     }
     Ok(readers)
 }

@@ -1,4 +1,5 @@
-//! The value that readers take: a list of entries for each node, and the history behind the lists.
+//! The value that readers take: a list of entries for each node, the history behind the lists, and
+//! the events until then.
 ghost use Rattle.std.specs.Prelude.{◌≡◌, ◌≤◌, ◌<◌, [], map, IfOk};
 ghost use Rattle.urb_show.specs.Lists.{Agree, list_at};
 ghost use Rattle.urb_show.specs.internal.History.{Issue};
@@ -6,17 +7,20 @@ ghost use Rattle.urb_show.specs.Pages.{IsPageOf};
 
 use crate::entry::{Addition, Entry, Page};
 use crate::entry_lists::{copy_entries, push_at};
+use crate::history::calls::Happening;
 use crate::history::tokens::Mark;
 use left_right::Absorb;
 use std::alloc::{AllocError, Allocator};
 use std::marker::Model;
 use urb_group::NoMemory;
 
-/// A list of entries for each node, and the history behind the lists.
+/// A list of entries for each node, the history behind the lists, and the events until the last
+/// addition.
 #[derive(Drop)]
 pub(crate) struct PublishedLists {
     lists: Vec<Vec<Entry>>,
     mark: Mark<Addition>,
+    events: Mark<Happening>,
 }
 
 impl Model for PublishedLists {
@@ -25,7 +29,11 @@ impl Model for PublishedLists {
 
     ghost Value = { Issue };
 
-    ghost view = { λ p. record { lists = map (λ l. l.items) p.lists.items; mark = p.mark } };
+    ghost view = { λ p. record {
+      lists = map (λ l. l.items) p.lists.items;
+      mark = p.mark;
+      events = p.events;
+    } };
 }
 
 /// One more entry of a node, and the history with this entry.
@@ -39,6 +47,7 @@ pub(crate) struct Operation {
 pub(crate) struct ListsState {
     pub(crate) lists: [[Entry; 0]; 0],
     pub(crate) mark: Mark<Addition>,
+    pub(crate) events: Mark<Happening>,
 }
 
 impl Absorb<Operation> for PublishedLists {
@@ -62,6 +71,7 @@ impl Absorb<Operation> for PublishedLists {
             return Err(AllocError);
         }
         self.mark = operation.mark.copy();
+        self.events = operation.addition.events.copy();
         Ok(())
     }
 
@@ -71,14 +81,23 @@ impl Absorb<Operation> for PublishedLists {
         _other: &PublishedLists,
     ) -> Result<(), Operation> {
         let Operation { addition, mark } = operation;
-        let Addition { place, entry } = addition;
+        let Addition {
+            place,
+            entry,
+            events,
+        } = addition;
         match push_at(&mut self.lists, place, entry) {
             Ok(()) => {
                 self.mark = mark;
+                self.events = events;
                 Ok(())
             }
             Err(entry) => Err(Operation {
-                addition: Addition { place, entry },
+                addition: Addition {
+                    place,
+                    entry,
+                    events,
+                },
                 mark,
             }),
         }
@@ -86,10 +105,19 @@ impl Absorb<Operation> for PublishedLists {
 }
 
 impl PublishedLists {
-    pub(crate) fn new(lists: Vec<Vec<Entry>>, mark: Mark<Addition>) -> PublishedLists
-        ensures { result ≡ record { lists = map (λ l. l.items) lists.items; mark = mark } }
+    pub(crate) fn new(
+        lists: Vec<Vec<Entry>>,
+        mark: Mark<Addition>,
+        events: Mark<Happening>,
+    ) -> PublishedLists
+        ensures { result ≡ record
+            { lists = map (λ l. l.items) lists.items; mark = mark; events = events } }
     {
-        PublishedLists { lists, mark }
+        PublishedLists {
+            lists,
+            mark,
+            events,
+        }
     }
 
     /// The history behind the lists.
@@ -97,6 +125,13 @@ impl PublishedLists {
         ensures { result.now ≡ self.now.mark }
     {
         &self.mark
+    }
+
+    /// The events until the last addition.
+    pub(crate) fn events(&self) -> &Mark<Happening>
+        ensures { result.now ≡ self.now.events }
+    {
+        &self.events
     }
 
     // A node's list.

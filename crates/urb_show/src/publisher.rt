@@ -6,10 +6,13 @@ ghost use mathlib.Core.List.{IsPrefix};
 ghost use Rattle.urb_show.specs.Lists.{Agree};
 ghost use Rattle.urb_show.specs.Additions.{lists_of};
 ghost use Rattle.urb_show.specs.internal.History.{AddsNothing, issue_of};
+ghost use Rattle.urb_group.specs.GroupViews.{IsSound};
+ghost use Rattle.urb_show.specs.DeliveredLists.{AreDeliveredBy};
 
 use crate::entry::Addition;
 use crate::history::rule::{Grows, Sees};
 use crate::history::tokens::{Add, Book, HistoryToken, HouseName, OfAdditions};
+use crate::moment::Moment;
 use crate::published_lists::{Operation, PublishedLists};
 use crate::reader::Told;
 use left_right::writer::Writer;
@@ -42,6 +45,8 @@ impl<K: HouseName, A: Allocator> Model for Publisher<K, A> {
     ghost use Rattle.urb_show.specs.Additions.{lists_of};
     ghost use Rattle.urb_show.specs.internal.History.{PublisherView, issue_of};
     ghost use Rattle.urb_show.specs.internal.Operations.{state_of, applied_to};
+    ghost use Rattle.urb_show.specs.internal.PublishingRule.{AreTimely};
+    ghost use Rattle.urb_group.specs.GroupViews.{IsSound};
     ghost use Rattle.urb_show.specs.Lists.{Agree};
 
     ghost Value = { PublisherView };
@@ -55,10 +60,19 @@ impl<K: HouseName, A: Allocator> Model for Publisher<K, A> {
         × MatchOption p.kept (p.all ≡ p.queued) (λ op.
         (p.all ≡ p.queued ++ op.addition ∷ []) × (op.mark ≡ record { book = K.book; log = p.all }))
         × IsSomeAnd p.writer (λ w.
-        (w.desk.shown.value ≡ issue_of K.book K.base p.shown)
-        × (fold applied_to (state_of (issue_of K.book K.base p.shown)) (drop w.behind w.log.items)
-        ≡ state_of (issue_of K.book K.base p.queued)))
-        × IsPrefix p.all p.known };
+        (w.desk.shown.value ≡ issue_of K.book K.history K.base p.shown)
+        × (fold applied_to (state_of (issue_of K.book K.history K.base p.shown))
+        (drop w.behind w.log.items)
+        ≡ state_of (issue_of K.book K.history K.base p.queued)))
+        × IsPrefix p.all p.known
+        × IsSound K.origin
+        × AreTimely (record
+        { book = K.book; history = K.history; origin = K.origin; base = K.base }) p.all };
+}
+
+/// The refusal of a history that takes nothing more.
+pub(crate) fn history_is_full() -> NoMemory {
+    NoMemory::from(AllocError)
 }
 
 impl<K: HouseName, A: Allocator> Publisher<K, A> {
@@ -69,7 +83,9 @@ impl<K: HouseName, A: Allocator> Publisher<K, A> {
     ) -> Publisher<K, A>
         requires empty { token ≡ [] }
         requires agree { Agree K.base }
-        requires writer { (writer.desk.shown.value ≡ issue_of K.book K.base [])
+        requires sound { IsSound K.origin }
+        requires delivered { AreDeliveredBy K.origin [] K.base }
+        requires writer { (writer.desk.shown.value ≡ issue_of K.book K.history K.base [])
             × (drop writer.behind writer.log.items ≡ []) }
         ensures { result ≡ record { known = []; all = []; queued = []; shown = [] } }
     {
@@ -94,6 +110,10 @@ impl<K: HouseName, A: Allocator> Publisher<K, A> {
     pub(crate) fn add(&mut self, addition: Addition) -> Result<(), NoMemory>
         requires flushed { self.old.queued ≡ self.old.all }
         requires agree { Agree (lists_of K.base (self.old.all ++ addition ∷ [])) }
+        requires named { addition.events.book ≡ K.history }
+        // the nodes had delivered the lists by the events that come with the addition
+        requires delivered { AreDeliveredBy K.origin addition.events.log
+            (lists_of K.base (self.old.all ++ addition ∷ [])) }
         ensures { MatchResult result
             (λ _. self.new ≡ record self.old {
               known = self.old.all ++ addition ∷ [];
@@ -105,7 +125,7 @@ impl<K: HouseName, A: Allocator> Publisher<K, A> {
         let added = all.add::<Addition, Add>(&self.book, &addition);
         self.known = all.copy();
         if !added {
-            return Err(NoMemory::from(AllocError));
+            return Err(history_is_full());
         }
         self.kept = Some(Operation {
             addition,
@@ -147,12 +167,17 @@ impl<K: HouseName, A: Allocator> Publisher<K, A> {
         }
     }
 
-    /// Publishes all that was added. It waits for readers that still have the older copy.
-    pub(crate) fn publish<R: Wait>(&mut self, rt: &R) -> Result<Told<K>, NoMemory>
+    /// Publishes all that was added, and gives a token for it, with this moment. It waits for
+    /// readers that still have the older copy.
+    pub(crate) fn publish<R: Wait>(
+        &mut self,
+        rt: &R,
+        moment: Moment<K>,
+    ) -> Result<Told<K>, NoMemory>
         requires flushed { self.old.queued ≡ self.old.all }
         ensures { MatchResult result
             (λ told. (self.new ≡ record self.old { shown = self.old.all })
-            × (told ≡ lists_of K.base self.old.all))
+            × (told ≡ record { lists = lists_of K.base self.old.all; past = moment }))
             (λ _. self.new ≡ self.old) }
     {
         let Some(writer) = self.writer.take() else {
@@ -166,7 +191,7 @@ impl<K: HouseName, A: Allocator> Publisher<K, A> {
         match done {
             Ok(()) => {
                 self.shown = self.all.copy();
-                Ok(Told::new(self.all.copy()))
+                Ok(Told::new(self.all.copy(), moment))
             }
             Err(refused) => Err(NoMemory::from(refused)),
         }

@@ -3,6 +3,9 @@ ghost use Rattle.std.specs.Prelude.{◌≡◌, ◌∷◌, ◌-◌, ◌^◌, []};
 ghost use Rattle.urb_group.specs.internal.Scripts.{message};
 ghost use Rattle.urb_names.specs.Names.{name};
 ghost use Rattle.urb_show.specs.internal.Examples.{entry, group_of, told};
+ghost use Rattle.urb_group.specs.World.{started};
+ghost use Rattle.urb_names.specs.LabelsAndContents.{Limits};
+ghost use Rattle.urb_show.specs.DeliveredLists.{HaveDelivered};
 ghost use Rattle.urb_show.specs.Houses.{next_count};
 ghost use Rattle.urb_show.specs.Lists.{Agree, Begins, list_at, lists_in};
 
@@ -39,6 +42,14 @@ pub fn disagreements()
     ensures a_number_is_missing { Agree ((told 1 2 "a" ∷ []) ∷ []) → ⊥ }
     ensures a_number_twice { Agree ((told 1 1 "a" ∷ told 1 1 "a" ∷ []) ∷ []) → ⊥ }
     ensures too_early { Agree ([] ∷ (told 1 2 "b" ∷ told 1 1 "a" ∷ []) ∷ []) → ⊥ }
+{}
+
+/// In a new world no node has delivered anything. So its logs have no list with an entry, and each
+/// list without entries is a prefix of them.
+pub fn deliveries_of_a_new_world()
+    ensures nothing { (size : Limits) → HaveDelivered (started size) ([] ∷ [] ∷ []) }
+    ensures something { (size : Limits) →
+        HaveDelivered (started size) ([] ∷ (told 1 1 "a" ∷ []) ∷ []) → ⊥ }
 {}
 
 /// The count of events goes up by one, and stays at its greatest value.

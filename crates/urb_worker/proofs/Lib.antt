@@ -20,6 +20,7 @@ pub mod GrowingPasts
 pub mod TurnLoans
 pub mod TrueResponses
 pub mod SeenEvents
+pub mod AcceptedReads
 pub mod LastingStores
 pub mod WaitingNodes
 pub mod StoreKeeping

@@ -35,7 +35,7 @@ AnswersClient opened before asked said after =
 
 -- Memory may be refused only for a request that the node takes. It leaves what it leaves of the
 -- node's desk.
-abbrev pub RefusedClient : ClientDeskView → Asked → ClientDeskView → Type 0
-RefusedClient before asked after =
+abbrev pub RefusedClient : GroupView → ClientDeskView → Asked → ClientDeskView → Type 0
+RefusedClient opened before asked after =
     (after.may_crash ≡ before.may_crash) × (is_taken before.may_crash asked ≡ true)
-    × RefusedAt before.desk asked after.desk
+    × RefusedAt opened before.desk asked after.desk

@@ -24,8 +24,8 @@ use Rattle.urb_group.specs.declared.state.State.TheVariants as state
 use Rattle.urb_node.specs.Replies.{Up, WentDown}
 use Rattle.urb_group.specs.RecoveryPlans.{after}
 use Rattle.urb_show.specs.Pasts.{IsLedTo, IsToldAt}
-use Rattle.urb_show.specs.Readers.{ReaderView, Learns, Takes}
-use Rattle.urb_show.specs.Lists.{Lists, list_at}
+use Rattle.urb_show.specs.Readers.{ReaderView, Learns, Takes, ToldView}
+use Rattle.urb_show.specs.Lists.{list_at}
 use Rattle.urb_show.specs.Statuses.{TellsStatus}
 use Rattle.urb_show.specs.declared.entry.Entry.{Entry}
 use Rattle.urb_show.specs.declared.status.Status.{Status}
@@ -85,18 +85,25 @@ pair_of entry = (entry.name, entry.message)
 abbrev pub part_of : List Entry → ℕ → ℕ → List (Label × Content)
 part_of list place max = map pair_of (take max (drop (place - 1) list))
 
+-- The lists of one moment were taken. They are prefixes of what the nodes had delivered at a place
+-- of the history, behind all that the desk had seen. The desk has now seen all events until there.
+pub record Looks (opened : GroupView) (before after : DeskView) : Type 0 where
+  pub takes : Takes opened before.known after.known
+  pub place : after.past ≡ after.known.past
+  pub behind : IsPrefix before.past after.past
+
 -- A read was answered. The lists of one moment were taken. The response has as many of the desk's
--- node's entries in them as a frame has room for. Or the House is gone. A read shows no events.
-abbrev pub Reads : DeskView → ℕ → ℕ → Said → DeskView → Type 0
-Reads before place max said after =
-    (after.past ≡ before.past) × ((Takes before.known after.known
+-- node's entries in them as a frame has room for. Or the House is gone, and nothing changed.
+abbrev pub Reads : GroupView → DeskView → ℕ → ℕ → Said → DeskView → Type 0
+Reads opened before place max said after =
+    (Looks opened before after
     × SaysPage (part_of (list_at after.known.seen (before.node - 1)) place max) said)
-    ⊎ ((after.known ≡ before.known) × (said ≡ gone)))
+    ⊎ ((after.known ≡ before.known) × (after.past ≡ before.past) × (said ≡ gone))
 
 -- what a turn published, if anything, was learnt
-abbrev pub LearnsTold : Option Lists → ReaderView → ReaderView → Type 0
+abbrev pub LearnsTold : Option ToldView → ReaderView → ReaderView → Type 0
 LearnsTold None before after = after ≡ before
-LearnsTold (Some lists) before after = Learns lists before after
+LearnsTold (Some token) before after = Learns token before after
 
 -- the job is what this request asks at node p
 abbrev pub IsJobOf : ℕ → Asked → Job → Type 0
@@ -189,9 +196,9 @@ Tells opened seen history p asked said = ⊥
 -- without an entry there the page is empty.
 abbrev pub AnswersAt : GroupView → DeskView → Asked → Said → DeskView → Type 0
 AnswersAt opened before (Read place max) said after =
-    (after.node ≡ before.node) × Reads before place max said after
+    (after.node ≡ before.node) × Reads opened before place max said after
 AnswersAt opened before (Wait place max millis) said after =
-    (after.node ≡ before.node) × Reads before place max said after
+    (after.node ≡ before.node) × Reads opened before place max said after
 AnswersAt opened before asked said after =
     (after.node ≡ before.node) × Works opened before asked said after
     × Tells opened before.past after.past before.node asked said
@@ -199,11 +206,9 @@ AnswersAt opened before asked said after =
 
 -- What refused memory leaves of a desk: it has asked its worker nothing, and knows what it knew. In
 -- a read or a wait it may have taken the lists already.
-abbrev pub RefusedAt : DeskView → Asked → DeskView → Type 0
-RefusedAt before (Read place max) after =
-    (after.node ≡ before.node) × (after.past ≡ before.past)
-    × ((after.known ≡ before.known) ⊎ Takes before.known after.known)
-RefusedAt before (Wait place max millis) after =
-    (after.node ≡ before.node) × (after.past ≡ before.past)
-    × ((after.known ≡ before.known) ⊎ Takes before.known after.known)
-RefusedAt before asked after = after ≡ before
+abbrev pub RefusedAt : GroupView → DeskView → Asked → DeskView → Type 0
+RefusedAt opened before (Read place max) after = (after ≡ before)
+    ⊎ ((after.node ≡ before.node) × Looks opened before after)
+RefusedAt opened before (Wait place max millis) after = (after ≡ before)
+    ⊎ ((after.node ≡ before.node) × Looks opened before after)
+RefusedAt opened before asked after = after ≡ before

@@ -74,7 +74,7 @@ impl<'a, 'w, K: HouseName, R: Wait + Clock, W: Write + Drop> Desk for ClientDesk
 
     ghost answers = { AnswersClient K.origin };
 
-    ghost refuses = { RefusedClient };
+    ghost refuses = { RefusedClient K.origin };
 
     fn answer(&mut self, request: &Request) -> Result<Response, NoMemory> {
         if !is_taken(self.may_crash, request) {

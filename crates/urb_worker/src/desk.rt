@@ -1,12 +1,13 @@
 //! The desk of a running node: it passes requests to the node's worker, and does reads itself.
 
-ghost use Rattle.std.specs.Prelude.{◌≡◌, ◌⊎◌, ◌≤◌, ◌↔◌, [], IfOk, IsTrue, MatchOption, OnErr};
+ghost use Rattle.std.specs.Prelude.{◌≡◌, ◌⊎◌, ◌≤◌, ◌↔◌, ◌-◌, [], IfOk, IsTrue, MatchOption, OnErr};
 ghost use Rattle.std.specs.Prelude.{length};
 ghost use Rattle.urb_client.specs.declared.format.TheConstants.{MOST_ENTRIES};
 ghost use Rattle.urb_client.specs.Requests.{asked_by};
 ghost use Rattle.urb_client.specs.Responses.{said_by};
-ghost use Rattle.urb_show.specs.Readers.{Takes};
-ghost use Rattle.urb_worker.specs.Desks.{IsJobOf, LearnsTold, Reads, Sees, Tells, Works};
+ghost use Rattle.urb_show.specs.Lists.{list_at};
+ghost use Rattle.urb_show.specs.Pages.{IsPageOf};
+ghost use Rattle.urb_worker.specs.Desks.{IsJobOf, LearnsTold, Looks, Reads, Sees, Tells, Works};
 ghost use Rattle.urb_worker.specs.Desks.{gone, told_of};
 ghost use mathlib.Core.List.{IsPrefix};
 ghost use Rattle.urb_worker.specs.internal.Desks.{IsWork};
@@ -15,46 +16,15 @@ ghost use Rattle.urb_worker.specs.Settlings.{told_in};
 
 use crate::loans::copy_moment;
 use crate::responses::{down_response, response_to_read, response_to_turn};
-use crate::{Bell, Finished, InFlight, Job, ReaderPool, Stop, Ticket, TicketPlaces};
-use crossbeam_channel::{SendError, Sender};
+use crate::{Finished, Job, NodeService, Ticket};
+use crossbeam_channel::SendError;
 use std::alloc::{AllocError, Global};
 use std::marker::Model;
 use std::sync::Wait;
 use std::time::{Clock, Duration, Instant};
 use urb_client::{Desk, Request, Response};
 use urb_names::{NoMemory, NodeId};
-use urb_show::{HouseName, Moment, ReadFault, ReadPosition, Told};
-
-/// What the sessions of one node share.
-#[derive(Drop)]
-pub struct NodeService<'a, K: HouseName> {
-    /// The queue of the node's worker.
-    pub queue: &'a Sender<Ticket<K>>,
-    /// The places for tickets of sessions in this queue.
-    pub places: &'a TicketPlaces,
-    /// The readers that sessions borrow.
-    pub readers: &'a ReaderPool<K>,
-    /// The bell that rings when the node's log has grown.
-    pub bell: &'a Bell,
-    /// What is in flight to the node. While its receiver's backlog is long, submits wait.
-    pub in_flight: &'a InFlight,
-    /// The stop that ends all waits of clients.
-    pub stop: &'a Stop,
-}
-
-impl<'a, K: HouseName> NodeService<'a, K> {
-    // The same, for another desk.
-    fn copy(&self) -> NodeService<'a, K> {
-        NodeService {
-            queue: self.queue,
-            places: self.places,
-            readers: self.readers,
-            bell: self.bell,
-            in_flight: self.in_flight,
-            stop: self.stop,
-        }
-    }
-}
+use urb_show::{HouseName, Moment, Page, ReadFault, ReadPosition, Told};
 
 /// Answers the requests of a client at one node. A desk keeps the position of what its session has
 /// seen and learnt, and borrows a reader for each read. It learns what the worker published. So a
@@ -249,17 +219,45 @@ impl<'a, K: HouseName, R: Wait + Clock> NodeDesk<'a, K, R> {
         Ok(self.respond(request, came))
     }
 
+    // The session's position, which also knows the latest moment that the desk has seen.
+    fn position_now(&self) -> ReadPosition<K>
+        ensures same { result ≡ record self.now.known { past = result.past } }
+        ensures known { IsPrefix self.now.known.past result.past }
+        ensures seen { IsPrefix self.now.past result.past }
+    {
+        let mut position = self.position.copy();
+        if let Some(seen) = &self.seen {
+            position.learn_moment(seen);
+        }
+        position
+    }
+
+    // Takes the published lists, at a place of the history behind all that the desk has seen. It
+    // returns the node's page.
+    fn look(&mut self, place: u32, max: u8) -> Result<Page, ReadFault>
+        requires { 1 ≤ place }
+        ensures page { IfOk result (λ page. (self.new.node ≡ self.old.node)
+            × Looks K.origin self.old self.new
+            × IsPageOf (list_at self.new.known.seen (self.old.node - 1)) place max page) }
+        ensures refused { OnErr result (self.new ≡ self.old) }
+    {
+        let (rt, alloc, node, readers) = (self.rt, self.alloc, self.node, self.service.readers);
+        let mut position = self.position_now();
+        let page = readers.read(rt, alloc, &mut position, node, place, max)?;
+        self.seen = Some(position.moment().copy());
+        self.position = position;
+        Ok(page)
+    }
+
     // Reads the node's published list.
     fn read(&mut self, place: u32, max: u8) -> Result<Response, NoMemory>
         requires { (1 ≤ place) × (max ≤ MOST_ENTRIES) }
         ensures answered { IfOk result (λ response. (self.new.node ≡ self.old.node)
-            × Reads self.old place max (said_by response) self.new) }
-        ensures refused { OnErr result ((self.new.node ≡ self.old.node)
-            × (self.new.past ≡ self.old.past)
-            × ((self.new.known ≡ self.old.known) ⊎ Takes self.old.known self.new.known)) }
+            × Reads K.origin self.old place max (said_by response) self.new) }
+        ensures refused { OnErr result ((self.new ≡ self.old)
+            ⊎ ((self.new.node ≡ self.old.node) × Looks K.origin self.old self.new)) }
     {
-        let (rt, alloc, node, readers) = (self.rt, self.alloc, self.node, self.service.readers);
-        match readers.read(rt, alloc, &mut self.position, node, place, max) {
+        match self.look(place, max) {
             Ok(page) => response_to_read(self.alloc, page.entries),
             Err(ReadFault::NoMemory(refused)) => Err(refused),
             Err(ReadFault::Gone) => Ok(down_response()),
@@ -305,10 +303,9 @@ impl<'a, K: HouseName, R: Wait + Clock> NodeDesk<'a, K, R> {
     fn wait(&mut self, place: u32, max: u8, millis: u16) -> Result<Response, NoMemory>
         requires { (1 ≤ place) × (max ≤ MOST_ENTRIES) }
         ensures answered { IfOk result (λ response. (self.new.node ≡ self.old.node)
-            × Reads self.old place max (said_by response) self.new) }
-        ensures refused { OnErr result ((self.new.node ≡ self.old.node)
-            × (self.new.past ≡ self.old.past)
-            × ((self.new.known ≡ self.old.known) ⊎ Takes self.old.known self.new.known)) }
+            × Reads K.origin self.old place max (said_by response) self.new) }
+        ensures refused { OnErr result ((self.new ≡ self.old)
+            ⊎ ((self.new.node ≡ self.old.node) × Looks K.origin self.old self.new)) }
     {
         self.await_entry(place, millis);
         self.read(place, max)
@@ -322,7 +319,7 @@ impl<'a, K: HouseName, R: Wait + Clock> Desk for NodeDesk<'a, K, R> {
 
     ghost answers = { AnswersAt K.origin };
 
-    ghost refuses = { RefusedAt };
+    ghost refuses = { RefusedAt K.origin };
 
     fn answer(&mut self, request: &Request) -> Result<Response, NoMemory> {
         match request {

@@ -57,8 +57,10 @@ impl<K: HouseName> ReaderPool<K> {
         max: u8,
     ) -> Result<Page, ReadFault>
         requires { (node ≤ length K.base) × (1 ≤ first) }
-        // the page comes from lists that agree, and that begin with all that was seen and learnt
-        ensures page { IfOk result (λ p. Takes position.old position.new
+        // The page comes from lists that agree, and that begin with all that was seen and learnt. It
+        // is of what the node had delivered at a place of the history, behind all that the session
+        // knew.
+        ensures page { IfOk result (λ p. Takes K.origin position.old position.new
             × IsPageOf (list_at position.new.seen (node - 1)) first max p) }
         ensures refused { OnErr result (position.new ≡ position.old) }
     {

@@ -14,7 +14,8 @@ pub struct Grows<K> {
 impl<K: HouseName> Protocol<PublishedLists, u64> for Grows<K> {
     ghost use Rattle.urb_show.specs.internal.PublishingRule.{Keeps};
 
-    ghost holds = { Keeps K.book K.base };
+    ghost holds = { Keeps (record
+        { book = K.book; history = K.history; origin = K.origin; base = K.base }) };
 
     ghost first = { 0 };
 }
@@ -28,5 +29,6 @@ pub struct Sees<K> {
 impl<K: HouseName> Outcome<PublishedLists, u64> for Sees<K> {
     ghost use Rattle.urb_show.specs.internal.PublishingRule.{Rises};
 
-    ghost then = { Rises K.book K.base };
+    ghost then = { Rises (record
+        { book = K.book; history = K.history; origin = K.origin; base = K.base }) };
 }

@@ -197,7 +197,7 @@ pub(crate) struct Mark<E> {
 
 impl<E> Model for Mark<E> {
     ghost use Rattle.std.specs.Prelude.{◌≡◌, length};
-    ghost use Rattle.urb_show.specs.internal.History.{MarkView};
+    ghost use Rattle.urb_show.specs.internal.Marks.{MarkView};
 
     ghost Value = { MarkView E };
 

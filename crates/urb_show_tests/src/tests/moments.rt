@@ -1,8 +1,9 @@
-//! Moments of a house: each event has a place in the one history, and callers learn it.
+//! Moments of a house: each event has a place in the one history, and callers learn it. So has each
+//! page.
 //!
 //! The clauses say which event is at the place that a caller gets. The test counts moments, since a
 //! house that never gave one would meet them.
-ghost use Rattle.std.specs.Prelude.{◌≡◌, IfSome, length};
+ghost use Rattle.std.specs.Prelude.{◌≡◌, ◌≤◌, IfSome, length};
 ghost use Rattle.urb_group.specs.Step.{Crash};
 ghost use Rattle.urb_node.specs.Replies.{WentDown};
 ghost use Rattle.urb_show.specs.Houses.{IsNamed};
@@ -15,7 +16,7 @@ use std::alloc::Global;
 use std::sync::{Mutex, MutexGuard, Wait};
 use urb_group::{Failure, MemStable, NodeId, Stable};
 use urb_show::laws::replies_stand;
-use urb_show::{House, HouseName, Moment, Opened};
+use urb_show::{House, HouseName, LogReader, Moment, Opened, ReadPosition};
 
 // Crashes a node, and returns the place of the event. `me` has then seen all events up to it.
 fn crash<K: HouseName>(house: &mut House<K>, me: &mut Moment<K>, node: NodeId) -> Option<u64>
@@ -101,6 +102,51 @@ fn fail_and_restart<K: HouseName>(
     Some(failed && is_at(house, me, 8))
 }
 
+// Node 2's list is published and read. Returns whether the page has the one entry, and whether the
+// token and the reader know the moment after these events.
+fn publish_at<K: HouseName, R: Wait>(
+    rt: &R,
+    alloc: Global,
+    house: &mut House<K>,
+    reader: &mut LogReader<K>,
+    events: u64,
+) -> Option<bool>
+    requires { 2 ≤ length K.base }
+{
+    let earlier = reader.moment().place();
+    let told = house.settle(rt, node(2)).ok()?;
+    let page = reader.read(alloc, node(2), 1, 255).ok()?;
+    let read_at = reader.moment().place();
+    Some(
+        page.total == 1
+            && earlier == 0
+            && told.moment().place() == events
+            && read_at == events
+            && house.events() == events,
+    )
+}
+
+// A session that knows the present moment reads node 2's list again, behind that moment.
+fn reads_behind<K: HouseName>(
+    alloc: Global,
+    reader: &mut LogReader<K>,
+    me: &Moment<K>,
+    events: u64,
+) -> Option<bool>
+    requires { 2 ≤ length K.base }
+{
+    let mut position = ReadPosition::at(reader);
+    let published_at = position.moment().place();
+    position.learn_moment(me);
+    let page = position.read(reader, alloc, node(2), 1, 255).ok()?;
+    Some(
+        page.total == 1
+            && published_at < events
+            && position.moment().place() == events
+            && position.moment().is_after(me),
+    )
+}
+
 // Two callers crash a node each, through the lock. Each gets its own place.
 fn crash_two<K: HouseName, R: Wait>(
     rt: &R,
@@ -126,8 +172,9 @@ pub fn moments<K: HouseName, R: Wait>(
     opened: Opened,
 ) -> Result<(), &'static str>
     requires names { IsNamed opened K.book K.history K.base K.origin }
+    requires nodes { opened.group.size.n ≡ 3 }
 {
-    let (mut house, _readers) = match opened.parts::<K, R>(rt, alloc) {
+    let (mut house, mut readers) = match opened.parts::<K, R>(rt, alloc) {
         Ok(parts) => parts,
         Err((opened, _)) => {
             drop(opened.close());
@@ -141,13 +188,18 @@ pub fn moments<K: HouseName, R: Wait>(
     let mut stores = three_stores(alloc);
     let first = me.place() == 0 && is_at(&mut house, &mut me, 0);
     let told = broadcast(alloc, &mut house, &mut me, &mut stores) == Some(true);
+    house.recall();
+    let page = publish_at(rt, alloc, &mut house, &mut readers[0], 5) == Some(true);
     let back = fail_and_restart(alloc, &mut house, &mut me, &mut stores[2]) == Some(true);
+    let behind = reads_behind(alloc, &mut readers[0], &me, 8) == Some(true);
     let (house, places) = crash_two(rt, house, &mut me);
     drop(house.close(rt));
     first_false(&[
         (first, "a new house is at place 0"),
         (told, "a moment for each event of a broadcast"),
+        (page, "a page is at the place of its publishing"),
         (back, "a moment after a failure and a restart"),
+        (behind, "a session's page is behind all that it knows"),
         (
             places == Some((8, 9, 10)),
             "each crash is told its own place",

@@ -1,6 +1,10 @@
 use Rattle.std.proofs.Common.{List, [], ap, arith, length, slice_set, subst, sym, ℕ, ◌+◌, ◌++◌, ◌-◌}
 use Rattle.std.proofs.Common.{◌<◌, ◌∙◌, ◌∷◌, ◌≡◌}
+use Rattle.urb_group.specs.Step.{Event}
 use Rattle.urb_show.proofs.AgreeingLists.{agree_begins}
+use Rattle.urb_show.proofs.DeliveredPlaces.{led_delivered}
+use Rattle.urb_show.specs.DeliveredLists.{AreDeliveredBy}
+use Rattle.urb_show.specs.internal.Marks.{MarkView}
 use Rattle.urb_show.proofs.GroupLists.{lists_agree}
 use Rattle.urb_show.proofs.PreparedEntries.{IsNext, is_next}
 use Rattle.urb_show.specs.Additions.{lists_of}
@@ -16,7 +20,11 @@ add-requires-clause-agree g c =
     let base = g.K.HouseName.base in
     let all = c.self.inside.publisher.all in
     let group = c.self.inside.group in
-    let a : Addition = record { place = c.from-place.result; entry = c.in_ok-entry.entry } in
+    let a : Addition = record {
+      place = c.from-place.result;
+      entry = c.in_ok-entry.entry;
+      events = c.mark.result;
+    } in
     let k = c.index-index.result.now in
     let place : c.from-place.result ≡ c.args.node - 1 =
     omega (arith, c.from-place.ensures, c.number.ensures.number) in
@@ -37,12 +45,53 @@ add-requires-clause-agree g c =
     (agree_begins _ (lists_in group) next.house.begins
     (lists_agree group c.recall_deliveries.ensures.agree))
 
+pub add-requires-clause-delivered : goal.add-requires-clause-delivered
+add-requires-clause-delivered g c =
+    let base = g.K.HouseName.base in
+    let all = c.self.inside.publisher.all in
+    let group = c.self.inside.group in
+    let a : Addition = record {
+      place = c.from-place.result;
+      entry = c.in_ok-entry.entry;
+      events = c.mark.result;
+    } in
+    let k = c.index-index.result.now in
+    let place : c.from-place.result ≡ c.args.node - 1 =
+    omega (arith, c.from-place.ensures, c.number.ensures.number) in
+    let in_group : c.args.node - 1 < length group.nodes =
+    subst (λ (h : HouseView). c.args.node - 1 < length h.group.nodes) (sym c.self.view_is)
+    (let node = c.requires.node in let low = c.number.ensures.range.0 in
+    omega (arith, node, low)) in
+    let lacks =
+    subst (λ (h : HouseView). length (list_at h.prepared (c.args.node - 1)) < length
+    (list_at (lists_in h.group) (c.args.node - 1))) (sym c.self.view_is) c.requires.lacks in
+    let next : IsNext group base all a k (slice_set c.self.inside.prepared.items a.place (k + 1)) =
+    is_next group base all a c.self.inside.prepared.items k
+    (c.args.node - 1) place c.self.invariant.0 in_group c.index-index.ensures lacks
+    c.in_ok-entry.ensures in
+    let same : c.flush.new.self.all ≡ all =
+    ap (λ (p : PublisherView). p.all) c.in_ok-flush.ensures in
+    let events : c.mark.result.log ≡ c.self.inside.past =
+    ap (λ (m : MarkView _). m.log) c.mark.ensures
+    ∙ (c.token.ensures ∙ (c.requires.moment ∙ sym (ap (λ (h : HouseView). h.past)
+    c.self.view_is))) in
+    subst (λ (w : List Addition). AreDeliveredBy g.K.HouseName.origin c.mark.result.log
+    (lists_of base (w ++ a ∷ []))) (sym same)
+    (subst (λ (past : List Event). AreDeliveredBy g.K.HouseName.origin past
+    (lists_of base (all ++ a ∷ []))) (sym events)
+    (led_delivered g.K.HouseName.origin group c.self.inside.past _ c.self.invariant.1.leads
+    c.self.invariant.0.sound next.house.begins))
+
 pub overflow_add-index : goal.overflow_add-index
 overflow_add-index g c =
     let base = g.K.HouseName.base in
     let all = c.self.inside.publisher.all in
     let group = c.self.inside.group in
-    let a : Addition = record { place = c.from-place.result; entry = c.in_ok-entry.entry } in
+    let a : Addition = record {
+      place = c.from-place.result;
+      entry = c.in_ok-entry.entry;
+      events = c.mark.result;
+    } in
     let k = c.index-index.result.now in
     let place : c.from-place.result ≡ c.args.node - 1 =
     omega (arith, c.from-place.ensures, c.number.ensures.number) in
@@ -73,7 +122,11 @@ invariant_of-self-2 g c =
     let base = g.K.HouseName.base in
     let all = c.self.inside.publisher.all in
     let group = c.self.inside.group in
-    let a : Addition = record { place = c.from-place.result; entry = c.in_ok-entry.entry } in
+    let a : Addition = record {
+      place = c.from-place.result;
+      entry = c.in_ok-entry.entry;
+      events = c.mark.result;
+    } in
     let k = c.index-index.result.now in
     let place : c.from-place.result ≡ c.args.node - 1 =
     omega (arith, c.from-place.ensures, c.number.ensures.number) in
@@ -102,7 +155,11 @@ returns g c =
     let base = g.K.HouseName.base in
     let all = c.self.inside.publisher.all in
     let group = c.self.inside.group in
-    let a : Addition = record { place = c.from-place.result; entry = c.in_ok-entry.entry } in
+    let a : Addition = record {
+      place = c.from-place.result;
+      entry = c.in_ok-entry.entry;
+      events = c.mark.result;
+    } in
     let k = c.index-index.result.now in
     let place : c.from-place.result ≡ c.args.node - 1 =
     omega (arith, c.from-place.ensures, c.number.ensures.number) in

@@ -1,10 +1,12 @@
-use Rattle.std.proofs.Common.{length, ◌-◌, ◌≤◌}
+use Rattle.std.proofs.Common.{length, ◌-◌, ◌≡◌, ◌≤◌}
 use Rattle.urb_show.specs.Houses.{Grew}
 use Rattle.urb_show.specs.Lists.{list_at, lists_in}
 use Rattle.urb_show.proofs.house.House.settle.Given as goal
 
 abbrev pub invariant-loop-node : goal.invariant-loop-node
-invariant-loop-node g l = Grew (l.node - 1) l.fn.self l.self × (l.node ≤ length l.self.group.nodes)
+invariant-loop-node g l =
+    Grew (l.node - 1) l.fn.self l.self × (l.node ≤ length l.self.group.nodes)
+    × (l.moment-inside.token ≡ l.self.past)
 
 abbrev pub decreases-loop-node : goal.decreases-loop-node
 decreases-loop-node g l =

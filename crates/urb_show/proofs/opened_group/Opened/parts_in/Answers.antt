@@ -1,4 +1,6 @@
-use Rattle.std.proofs.Common.{ap, refl, subst, ◌≡◌, ◌∙◌}
+use Rattle.std.proofs.Common.{[], ap, refl, subst, ◌≡◌, ◌∙◌}
+use Rattle.urb_group.specs.GroupViews.{IsSound}
+use Rattle.urb_show.proofs.DeliveredPlaces.{opened_delivered}
 use Rattle.urb_show.proofs.GroupLists.{lists_agree}
 use Rattle.urb_show.proofs.PastEvents.{has_no_past}
 use Rattle.urb_show.proofs.PastPrefixes.{prefix_none}
@@ -34,3 +36,33 @@ make_readers-requires-clause-agree g c =
     let base : lists_in c.self.inside.group ≡ g.K.HouseName.base =
     ap (λ (n : OpenedView). lists_in n.group) c.self.view_is ∙ c.requires.names.base in
     subst Agree base (lists_agree c.self.inside.group c.recall_deliveries.ensures.agree)
+
+pub new-requires-clause-sound : goal.new-requires-clause-sound
+new-requires-clause-sound g c =
+    let same : c.self.inside.group ≡ g.K.HouseName.origin =
+    ap (λ (n : OpenedView). n.group) c.self.view_is ∙ c.requires.names.origin in
+    subst IsSound same c.recall_deliveries.ensures.sound
+
+pub new-requires-clause-delivered : goal.new-requires-clause-delivered
+new-requires-clause-delivered g c =
+    let base : lists_in c.self.inside.group ≡ g.K.HouseName.base =
+    ap (λ (n : OpenedView). lists_in n.group) c.self.view_is ∙ c.requires.names.base in
+    let same : c.self.inside.group ≡ g.K.HouseName.origin =
+    ap (λ (n : OpenedView). n.group) c.self.view_is ∙ c.requires.names.origin in
+    opened_delivered g.K.HouseName.origin c.self.inside.group [] g.K.HouseName.base refl same base
+    c.recall_deliveries.ensures.sound
+
+pub make_readers-requires-clause-sound : goal.make_readers-requires-clause-sound
+make_readers-requires-clause-sound g c =
+    let same : c.self.inside.group ≡ g.K.HouseName.origin =
+    ap (λ (n : OpenedView). n.group) c.self.view_is ∙ c.requires.names.origin in
+    subst IsSound same c.recall_deliveries.ensures.sound
+
+pub make_readers-requires-clause-delivered : goal.make_readers-requires-clause-delivered
+make_readers-requires-clause-delivered g c =
+    let base : lists_in c.self.inside.group ≡ g.K.HouseName.base =
+    ap (λ (n : OpenedView). lists_in n.group) c.self.view_is ∙ c.requires.names.base in
+    let same : c.self.inside.group ≡ g.K.HouseName.origin =
+    ap (λ (n : OpenedView). n.group) c.self.view_is ∙ c.requires.names.origin in
+    opened_delivered g.K.HouseName.origin c.self.inside.group [] g.K.HouseName.base refl same base
+    c.recall_deliveries.ensures.sound

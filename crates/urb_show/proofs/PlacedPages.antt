@@ -1,0 +1,100 @@
+-- Lists that are delivered at places of one history agree.
+use Rattle.std.proofs.Common.{Bool, List, Option, [], ap, cond, false, filter, inl, inr, map, refl}
+use Rattle.std.proofs.Common.{subst, suc, sym, true, ℕ, ⊎_elim, ◌==◌, ◌∙◌, ◌∷◌, ◌≡◌}
+use Rattle.std.proofs.lemmas.List.Elements.{filter-append}
+use Rattle.urb_group.proofs.safety.AgreeingLogs.{agree-now}
+use Rattle.urb_group.proofs.safety.SafeWorlds.{safe}
+use Rattle.urb_group.proofs.shown.AgreeingWorlds.{sound-kept}
+use Rattle.urb_group.proofs.shown.Deliveries.{known-begins}
+use Rattle.urb_group.proofs.steps.Runs.{run-kept}
+use Rattle.urb_group.specs.DeliveredMessages.{Delivery, known, sent_by}
+use Rattle.urb_group.specs.GroupViews.{GroupView, IsSound}
+use Rattle.urb_group.specs.RecoveryPlans.{after}
+use Rattle.urb_group.specs.SafetyProperties.{Safe}
+use Rattle.urb_group.specs.Step.{Event}
+use Rattle.urb_group.specs.World.{World, stored}
+use Rattle.urb_names.specs.LabelsAndContents.{Content, Label}
+use Rattle.urb_names.specs.ListPrefixes.{OneBegins}
+use Rattle.urb_names.specs.Pairs.{message_of}
+use Rattle.urb_stable.specs.DeliveredLogs.{entries, entries_of, log}
+use Rattle.urb_stable.specs.Records.{pend}
+use Rattle.urb_show.proofs.AgreeingLists.{either_prefix}
+use Rattle.urb_show.proofs.DeliveredPlaces.{delivered_later}
+use Rattle.urb_show.proofs.Prefixes.{prefix_trans}
+use Rattle.urb_show.specs.DeliveredLists.{AreDeliveredBy, HaveDelivered, in_log}
+use Rattle.urb_show.specs.Lists.{AgreeAcross, Lists, delivery_of, list_at}
+use Rattle.urb_show.specs.declared.entry.Entry.{Entry}
+use mathlib.Core.List.{IsPrefix}
+
+filter_mapped : {A B : Type 0} (f : A → B) (test : B → Bool) (xs : List A)
+    → filter test (map f xs) ≡ map f (filter (λ x. test (f x)) xs)
+filter_mapped f test [] = refl
+filter_mapped f test (x ∷ xs) = at (test (f x)) (filter_mapped f test xs)
+  where
+    at : (b : Bool) → filter test (map f xs) ≡ map f (filter (λ y. test (f y)) xs)
+        → cond b (f x ∷ filter test (map f xs)) (filter test (map f xs)) ≡ map f
+        (cond b (x ∷ filter (λ y. test (f y)) xs) (filter (λ y. test (f y)) xs))
+    at true e = ap (λ ys. f x ∷ ys) e
+    at false e = e
+
+filter_prefix : {A : Type 0} (test : A → Bool) (xs ys : List A) → IsPrefix xs ys
+    → IsPrefix (filter test xs) (filter test ys)
+filter_prefix test xs ys p =
+    (filter test p.0, sym (filter-append test xs p.0) ∙ ap (filter test) p.1)
+
+logged_known : (list : List Entry) → map in_log list ≡ map known (map delivery_of list)
+logged_known [] = refl
+logged_known (e ∷ list) =
+    ap (λ (es : List (Label × Option Content)). in_log e ∷ es) (logged_known list)
+
+module _ (v : World) (is_safe : Safe v) where
+  -- a sender's entries in a list that is delivered are a prefix of those of the node's log
+  sent_logged : (lists : Lists) (p s : ℕ) → HaveDelivered v lists
+      → IsPrefix (map known (sent_by s (map delivery_of (list_at lists p))))
+      (entries_of s (stored v (suc p)))
+  sent_logged lists p s delivered =
+      let ds : List Delivery = map delivery_of (list_at lists p) in
+      let records = stored v (suc p) in
+      let told : IsPrefix (map known ds) (entries records) =
+      subst (λ (es : List (Label × Option Content)). IsPrefix es (entries records))
+      (logged_known (list_at lists p)) (delivered p) in
+      let parts =
+      filter_prefix (λ (e : Label × Option Content). e.0.sender == s) (map known ds)
+      (entries records) told in
+      subst (λ (es : List (Label × Option Content)). IsPrefix es (entries_of s records))
+      (filter_mapped known (λ e. e.0.sender == s) ds)
+      (subst (λ (es : List (Label × Option Content)).
+      IsPrefix (filter (λ (e : Label × Option Content). e.0.sender == s) (map known ds)) es)
+      (filter_mapped (λ x. (x, message_of (pend records) x)) (λ e. e.0.sender == s) (log records))
+      parts)
+
+  -- lists that one world has delivered agree
+  agree_there : (xs ys : Lists) → HaveDelivered v xs → HaveDelivered v ys → AgreeAcross xs ys
+  agree_there xs ys these those p q s =
+      let here = sent_logged xs p s these in
+      let there = sent_logged ys q s those in
+      let one : OneBegins (map known (sent_by s (map delivery_of (list_at xs p))))
+      (map known (sent_by s (map delivery_of (list_at ys q)))) = ⊎_elim
+      (λ t. either_prefix _ _ _ (prefix_trans _ _ _ here t) there)
+      (λ t. either_prefix _ _ _ here (prefix_trans _ _ _ there t))
+      (agree-now v is_safe (suc p) (suc q) s) in
+      ⊎_elim (λ t. inl (known-begins _ _ t)) (λ t. inr (known-begins _ _ t)) one
+
+-- lists that are delivered at two places of one history agree
+pub agree_in_places : (opened : GroupView) (past later : List Event) (xs ys : Lists)
+    → IsSound opened → OneBegins past later → AreDeliveredBy opened past xs
+    → AreDeliveredBy opened later ys → AgreeAcross xs ys
+agree_in_places opened past later xs ys sound one these those =
+    ⊎_elim
+    (λ (t : IsPrefix past later). agree_there (after sound.world later) (safe_after later) xs ys
+    (delivered_later opened past later xs sound t these sound.world sound.shows)
+    (those sound.world sound.shows))
+    (λ (t : IsPrefix later past). agree_there (after sound.world past) (safe_after past) xs ys
+    (these sound.world sound.shows)
+    (delivered_later opened later past ys sound t those sound.world sound.shows))
+    one
+  where
+    safe_after : (events : List Event) → Safe (after sound.world events)
+    safe_after events =
+        safe (after sound.world events)
+        (run-kept sound.world events (sound-kept opened sound.world sound sound.shows)).nodes

@@ -1,0 +1,36 @@
+//! What the sessions of a node share.
+
+use crate::{Bell, InFlight, ReaderPool, Stop, Ticket, TicketPlaces};
+use crossbeam_channel::Sender;
+use urb_show::HouseName;
+
+/// What the sessions of one node share.
+#[derive(Drop)]
+pub struct NodeService<'a, K: HouseName> {
+    /// The queue of the node's worker.
+    pub queue: &'a Sender<Ticket<K>>,
+    /// The places for tickets of sessions in this queue.
+    pub places: &'a TicketPlaces,
+    /// The readers that sessions borrow.
+    pub readers: &'a ReaderPool<K>,
+    /// The bell that rings when the node's log has grown.
+    pub bell: &'a Bell,
+    /// What is in flight to the node. While its receiver's backlog is long, submits wait.
+    pub in_flight: &'a InFlight,
+    /// The stop that ends all waits of clients.
+    pub stop: &'a Stop,
+}
+
+impl<'a, K: HouseName> NodeService<'a, K> {
+    /// The same, for another desk.
+    pub(crate) fn copy(&self) -> NodeService<'a, K> {
+        NodeService {
+            queue: self.queue,
+            places: self.places,
+            readers: self.readers,
+            bell: self.bell,
+            in_flight: self.in_flight,
+            stop: self.stop,
+        }
+    }
+}
