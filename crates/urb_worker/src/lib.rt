@@ -49,6 +49,7 @@ mod client_input;
 mod connections;
 mod counting;
 mod desk;
+mod desk_queue;
 mod door;
 mod feeding;
 mod frame_progress;

@@ -211,15 +211,18 @@ static BEFORE: [Case; 7] = [
 const MORE: Kept = (Form::Certificate, 9, Load::Of(b""));
 
 // The right to open the files of node 1.
-fn first_claim() -> NodeClaim<NodeFile<Brand>> {
+fn first_claim() -> Option<NodeClaim<NodeFile<Brand>>> {
     let mut claims = FolderClaim::new().into_nodes();
-    claims.take_next().unwrap()
+    claims.take_next()
 }
 
 // Whether node 1's journal opens at this position, and can be closed. If records are given, it has
 // these, and takes one more.
 fn is_opened(rt: &HostRuntime, kept: Option<&[Kept]>, next: u32) -> bool {
-    let Ok(journal) = open_node(rt, FILE, first_claim()) else {
+    let Some(claim) = first_claim() else {
+        return false;
+    };
+    let Ok(journal) = open_node(rt, FILE, claim) else {
         return false;
     };
     let mut place = Place::with(rt.alloc(), journal);
@@ -294,7 +297,10 @@ static BAD: [(&'static str, u32); 3] = [
 
 // Whether the journal is refused because of this row.
 fn is_refused(rt: &HostRuntime, place: u32) -> bool {
-    match open_node(rt, FILE, first_claim()) {
+    let Some(claim) = first_claim() else {
+        return false;
+    };
+    match open_node(rt, FILE, claim) {
         Ok(journal) => {
             drop(journal);
             false
