@@ -2,11 +2,12 @@
 //!
 //! ```text
 //! // `main`, with the runtime as threads, files and streams; tests pass streams of their own
-//! ExitCode::from(run_program::<NodeFile<Brand>, _, _, _, _>(rt, &rt, &rt, rt.reader(), rt))
+//! let claim = FolderClaim::new();
+//! ExitCode::from(run_program::<NodeFile<Brand>, _, _, _, _>(rt, &rt, &rt, rt.reader(), rt, claim))
 //!
 //! // what `run_words` does if the words ask for a group
 //! let errors = ErrorOutput::start(rt, alloc, errors)?;   // a full pipe makes nobody wait
-//! let status = serve_folder::<D, R, _, I, _>(&rt, files, &mut output, input, &errors, serving);
+//! let status = serve_folder(&rt, files, &mut output, input, &errors, serving, claim);
 //! errors.finish();
 //! ```
 //!

@@ -21,7 +21,7 @@ use std::io::{IsTerminal, Read, Write};
 use std::net::{Net, TcpListener, TcpStream};
 use std::rt::{Env, HostRuntime};
 use urb_cli::{Fault, Line, ServeOptions, parse_line, read_words, report_fault, run_errand};
-use urb_folder::{Journal, NodeDisk, close_journals, open_journals};
+use urb_folder::{FolderClaim, Journal, NodeDisk, close_journals, open_journals};
 use urb_stable::Stable;
 
 // Runs a group over its journals until the input ends, closes them, and returns the program's status.
@@ -61,7 +61,8 @@ where
 
 /// Runs a group over the journals of its folder until the input ends, closes them, and returns the
 /// program's status. `rt` gives threads and sockets, and `files` the folder. `output` gets `open N`
-/// and `closed E`. `errors` shows everything else, and how far a start or a stop is.
+/// and `closed E`. `errors` shows everything else, and how far a start or a stop is. The call uses up
+/// the folder's claim, because `D` names what the files held at this one opening.
 pub fn serve_folder<
     D: NodeDisk + Send,
     R,
@@ -75,6 +76,7 @@ pub fn serve_folder<
     input: I,
     errors: &E,
     serving: ServeOptions<'_>,
+    claim: FolderClaim<D>,
 ) -> u8
 where
     R: Host + Net<Listener = TcpListener, Stream = TcpStream>,
@@ -85,7 +87,7 @@ where
 {
     let (dir, nodes) = (serving.dir, serving.nodes);
     errors.reach(Stage::Journals);
-    match open_journals::<D, R>(rt, files, dir, nodes) {
+    match open_journals::<D, R>(rt, files, dir, nodes, claim) {
         Ok(journals) => {
             errors.reach(Stage::Records);
             run_folder(rt, files, output, input, errors, serving, journals)
@@ -108,6 +110,7 @@ pub fn run_words<D: NodeDisk + Send, R, T, I, O, S: AsStr>(
     input: I,
     errors: O,
     words: &[S],
+    claim: FolderClaim<D>,
 ) -> u8
 where
     R: Host + Net<Listener = TcpListener, Stream = TcpStream> + Copy + Send + Drop + 'static,
@@ -126,20 +129,30 @@ where
         return report_fault(terminal, Fault::NoMemory);
     };
     let mut output = io::writer(terminal);
-    let status = serve_folder::<D, R, _, I, _>(&rt, files, &mut output, input, &errors, serving);
+    let status = serve_folder::<D, R, _, I, _>(
+        &rt,
+        files,
+        &mut output,
+        input,
+        &errors,
+        serving,
+        claim,
+    );
     errors.finish();
     status
 }
 
 /// Does what the command line asks for, and returns the program's status. It is what the program
 /// `urbd` does. First it takes the standard streams, so call it before anything else is opened. If
-/// the words can't be read, the status is 1, or 3 if one of them isn't UTF-8.
+/// the words can't be read, the status is 1, or 3 if one of them isn't UTF-8. `claim` is the right to
+/// open the files of a folder's nodes, each once.
 pub fn run_program<D: NodeDisk + Send, R, T, I, O>(
     rt: R,
     files: &HostRuntime,
     terminal: &T,
     input: I,
     errors: O,
+    claim: FolderClaim<D>,
 ) -> u8
 where
     R: Host + Net<Listener = TcpListener, Stream = TcpStream> + Copy + Send + Drop + 'static,
@@ -158,6 +171,7 @@ where
             input,
             errors,
             words.as_slice(),
+            claim,
         ),
         Err(status) => status,
     }

@@ -13,7 +13,7 @@ use sqlite_disk::Disk;
 use std::rt::HostRuntime;
 use std::sync::Arc;
 use std::thread::Threads;
-use urb_sqlite::{MessagePool, NodeDisk};
+use urb_sqlite::{FolderClaim, MessagePool, NodeDisk};
 use urb_stable::Stable;
 
 // Opens the journals of all nodes of a group, as `open_journals` does, in a folder without records
@@ -24,6 +24,7 @@ fn open_in_folder<D: NodeDisk + Send, R: Threads + Sync>(
     rt: &HostRuntime,
     dir: &str,
     nodes: u8,
+    claim: FolderClaim<D>,
 ) -> Result<Vec<Journal<D>>, FolderFault>
     ensures count { IfOk result (λ journals. vec_len journals ≡ nodes) }
     ensures nodes { IfOk result (λ journals. AreOfNodes (λ j. j.node) journals.items) }
@@ -37,7 +38,7 @@ fn open_in_folder<D: NodeDisk + Send, R: Threads + Sync>(
         dir,
         pool: &pool,
     };
-    match open_all::<D, R>(threads, rt.alloc(), folder, usize::from(nodes)) {
+    match open_all::<D, R>(threads, rt.alloc(), folder, usize::from(nodes), claim) {
         Ok(journals) => Ok(journals),
         Err(fault) => Err(fault),
     }
@@ -49,12 +50,14 @@ fn open_in_folder<D: NodeDisk + Send, R: Threads + Sync>(
 /// refused. Then no journal is made for a node after it, and those that were opened are closed. If
 /// the folder has records of a node that this group doesn't have, that is the fault, and no file is
 /// changed. `threads` and `rt` are the same runtime: one is used for threads, the other for files.
-/// `D` names what the files held: `NodeFile<K>` is such a type for each `K`.
+/// `D` names what the files held: `NodeFile<K>` is such a type for each `K`. The call uses up the
+/// folder's claim, so under one `D` the files of a node are opened once.
 pub fn open_journals<D: NodeDisk + Send, R: Threads + Sync>(
     threads: &R,
     rt: &HostRuntime,
     dir: &str,
     nodes: u8,
+    claim: FolderClaim<D>,
 ) -> Result<Vec<Journal<D>>, FolderFault>
     // There is one for each node.
     ensures count { IfOk result (λ journals. vec_len journals ≡ nodes) }
@@ -69,7 +72,7 @@ pub fn open_journals<D: NodeDisk + Send, R: Threads + Sync>(
     ensures fault { IfErr result (IsOfOpening nodes) }
 {
     match check_foreign_journals(rt, dir, nodes) {
-        None => open_in_folder::<D, R>(threads, rt, dir, nodes),
+        None => open_in_folder::<D, R>(threads, rt, dir, nodes, claim),
         Some(fault) => Err(fault),
     }
 }

@@ -1,7 +1,7 @@
 //! The folder of a group: opens and closes its nodes' journal files, and opens the group over them.
 //!
 //! ```text
-//! let journals = open_journals::<D, HostRuntime>(&rt, &rt, dir, 3)?;   // node-1.db to node-3.db
+//! let journals = open_journals::<D, _>(&rt, &rt, dir, 3, claim)?;      // node-1.db to node-3.db
 //! let (journals, opened) = open_group(&rt, rt.alloc(), config, journals);
 //! let group = opened?;                                   // goes on from before the last stop
 //! ..                                                     // the journals serve the group
@@ -34,4 +34,4 @@ pub use folder_fault::FolderFault;
 pub use group::open_group;
 pub use journal::{FileId, Journal};
 pub use obstacle::{Obstacle, find_obstacle};
-pub use urb_sqlite::{NodeDisk, NodeFile};
+pub use urb_sqlite::{FolderClaim, NodeDisk, NodeFile};

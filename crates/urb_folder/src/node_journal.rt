@@ -1,11 +1,11 @@
 //! The journal of one node in its folder: finds it, makes it, and closes it.
 
-ghost use Rattle.std.specs.Prelude.{◌≡◌, suc, false, true, length, IfErr, IfOk, IfSome};
+ghost use Rattle.std.specs.Prelude.{◌≡◌, ℕ, suc, false, true, length, IfErr, IfOk, IfSome};
 ghost use Rattle.std.specs.Fs.{asks_create_new, asks_write};
 ghost use Rattle.urb_stable.specs.StableStorage.{is_place};
 ghost use Rattle.urb_sqlite.specs.FoundJournals.{IsFoundIn};
 ghost use Rattle.urb_folder.specs.internal.JournalOutcomes.{OpensIn};
-ghost use Rattle.urb_folder.specs.internal.OpenedPlaces.{AreOpened};
+ghost use Rattle.urb_folder.specs.internal.OpenedPlaces.{AreOpened, IsFoundAt};
 
 use crate::journal::{FileId, Journal};
 use sqlite::FileStore;
@@ -16,14 +16,15 @@ use std::os::unix::fs::{MetadataExt, OpenOptionsExt};
 use std::rt::HostRuntime;
 use std::sync::Arc;
 use urb_names::NodeId;
-use urb_sqlite::{MessagePool, NodeDisk, SqlStable, close_node_in, open_node_in};
+use urb_sqlite::{MessagePool, NodeClaim, NodeDisk, SqlStable, close_node_in, open_node_in};
 use urb_stable::{Stable, StoreFault};
 
 // The mode of the files of a new journal: only their owner may read and write them.
 const JOURNAL_MODE: u32 = 0o600;
 
-/// The result of looking for a journal: nothing, or the outcome of opening the one that is there.
-pub(crate) type Found<D> = Option<Result<Journal<D>, StoreFault>>;
+/// The result of looking for a journal: the outcome of opening it, or the claim of its node, whose
+/// files were not opened yet.
+pub(crate) type Found<D> = Result<Result<Journal<D>, StoreFault>, NodeClaim<D>>;
 
 /// A folder with the journals of a group. That of node P is `node-P.db`, and its place is P - 1. If
 /// there is a pool, the journals that are opened share their messages with it.
@@ -79,26 +80,23 @@ fn sharing<D: Disk + Drop>(
     journal
 }
 
-// Opens the journal of the node at this place.
-pub(crate) fn open_at<D: NodeDisk>(
-    rt: &HostRuntime,
-    dir: &str,
-    pool: &Option<Arc<MessagePool>>,
-    place: usize,
+// Opens the journal of the claim's node.
+fn open_claimed<D: NodeDisk>(
+    folder: &Folder<'_>,
+    claim: NodeClaim<D>,
 ) -> Result<Journal<D>, StoreFault>
     ensures fault { IfErr result (λ fault. is_place fault ≡ false) }
-    ensures node { IfOk result (λ j. j.node ≡ suc place) }
+    ensures node { IfOk result (λ j. j.node ≡ claim) }
     // A journal that was in this node's files is found with its records. If the database file was
     // empty, the journal has no record.
-    ensures found { IfOk result (λ j. IsFoundIn (D.NodeDisk.held (suc place))
+    ensures found { IfOk result (λ j. IsFoundIn (D.NodeDisk.held claim)
         (⟦<Journal<D> as Stable>⟧.is_clean j) (⟦<Journal<D> as Stable>⟧.is_honest j)
         (⟦<Journal<D> as Stable>⟧.certain j)) }
 {
-    let Some(node) = node_at(place) else {
-        return Err(StoreFault::Device);
-    };
-    let journal = sharing::<D>(open_node_in::<D>(rt, dir, node)?, pool);
-    match file_of(rt, dir, node) {
+    let node = claim.node();
+    let opened = open_node_in::<D>(folder.rt, folder.dir, claim)?;
+    let journal = sharing::<D>(opened, folder.pool);
+    match file_of(folder.rt, folder.dir, node) {
         Some(file) => Ok(Journal {
             node,
             file,
@@ -133,27 +131,35 @@ pub(crate) fn length_at(folder: &Folder<'_>, place: usize) -> Option<usize> {
     usize::try_from(found.len()).ok()
 }
 
-/// Opens the journal of the node at this place if it exists. It makes nothing.
-pub(crate) fn find_at<D: NodeDisk>(folder: &Folder<'_>, place: usize) -> Found<D>
-    ensures { IfSome result (OpensIn D.Disk D.NodeDisk.held place) }
+/// Opens a journal that was not opened yet, if it exists. It makes nothing.
+pub(crate) fn find<D: NodeDisk>(folder: &Folder<'_>, found: Found<D>) -> Found<D>
+    // It is found at the place where the claim was.
+    ensures { (place : ℕ) → IsFoundAt (OpensIn D.Disk D.NodeDisk.held) place found
+        → IsFoundAt (OpensIn D.Disk D.NodeDisk.held) place result }
 {
-    let _file = file_of(folder.rt, folder.dir, node_at(place)?)?;
-    Some(open_at::<D>(folder.rt, folder.dir, folder.pool, place))
+    let claim = match found {
+        Ok(outcome) => return Ok(outcome),
+        Err(claim) => claim,
+    };
+    match file_of(folder.rt, folder.dir, claim.node()) {
+        Some(_) => Ok(open_claimed(folder, claim)),
+        None => Err(claim),
+    }
 }
 
-/// Makes the missing journal at the place after the given ones. All of these have to be open,
-/// because nothing is made after a place that was refused.
+/// Makes the missing journal of the claim's node, at the place after the given ones. All of these
+/// have to be open, because nothing is made after a place that was refused.
 pub(crate) fn make_next<D: NodeDisk>(
     folder: &Folder<'_>,
+    claim: NodeClaim<D>,
     earlier: &[Journal<D>],
 ) -> Result<Journal<D>, StoreFault>
-    requires { AreOpened (OpensIn D.Disk D.NodeDisk.held) (length earlier.now) earlier.now }
+    requires earlier { AreOpened (OpensIn D.Disk D.NodeDisk.held) (length earlier.now) earlier.now }
+    requires claim { claim ≡ suc (length earlier.now) }
     ensures { OpensIn D.Disk D.NodeDisk.held (length earlier.now) result }
 {
-    if let Some(node) = node_at(earlier.len()) {
-        make_file(folder.rt, folder.dir, node);
-    }
-    open_at::<D>(folder.rt, folder.dir, folder.pool, earlier.len())
+    make_file(folder.rt, folder.dir, claim.node());
+    open_claimed(folder, claim)
 }
 
 /// Closes a journal by its name, so only if the name still leads to the journal's file. Otherwise

@@ -1,19 +1,21 @@
 //! Opens the journals of a folder: existing ones in parallel, and then missing ones one after the
 //! other.
 
-ghost use Rattle.std.specs.Prelude.{◌≡◌, ◌⊎◌, ◌<◌, ◌≤◌, ◌/◌, IfErr, IfOk, IfSome, MatchOption};
-ghost use Rattle.std.specs.Prelude.{length, vec_capacity, vec_len};
+ghost use Rattle.std.specs.Prelude.{◌≡◌, ◌⊎◌, ◌<◌, ◌≤◌, ◌/◌, ℕ, IfErr, IfOk, IfSome, MatchOption};
+ghost use Rattle.std.specs.Prelude.{◌+◌, length, vec_capacity, vec_len};
 ghost use Rattle.urb_folder.specs.internal.JournalOutcomes.{FailsAtNode, OpensIn};
 ghost use Rattle.urb_folder.specs.internal.OpenedPlaces.{AreFound, AreOpened, FailsAfter};
+ghost use Rattle.urb_folder.specs.internal.OpenedPlaces.{IsFoundAt, IsGiven};
 
 use crate::folder_fault::FolderFault;
 use crate::journal::Journal;
-use crate::node_journal::{Folder, Found, close_journal, find_at, length_at, make_next};
+use crate::node_journal::{Folder, Found, close_journal, find, length_at, make_next};
 use sqlite_disk::Disk;
 use std::alloc::Global;
+use std::mem::replace;
 use std::thread;
 use std::thread::Threads;
-use urb_sqlite::NodeDisk;
+use urb_sqlite::{FolderClaim, NodeClaims, NodeDisk};
 use urb_stable::StoreFault;
 
 /// How many bytes several database files may have in all if they are opened at the same time. An
@@ -57,17 +59,43 @@ fn count_threads(folder: &Folder<'_>, count: usize) -> usize
     fit_together(count, longest)
 }
 
-// A list with nothing found yet at each of `count` places, or `None` if memory was refused.
-fn prepare_places<D: Disk + Drop>(alloc: Global, count: usize) -> Option<Vec<Found<D>>>
-    ensures { IfSome result (λ found. vec_len found ≡ count) }
+// The claim of the next node. Behind the greatest node there is none, so the place is refused.
+fn claim_next<D: NodeDisk>(claims: &mut NodeClaims<D>) -> Found<D>
+    ensures { (place : ℕ) → IsGiven place claims.old
+        → IsFoundAt (OpensIn D.Disk D.NodeDisk.held) place result × IsGiven (place + 1) claims.new }
+{
+    match claims.take_next() {
+        Some(claim) => Err(claim),
+        None => Ok(Err(StoreFault::Device)),
+    }
+}
+
+// A list with the claim of its node at each of `count` places, or `None` if memory was refused.
+fn prepare_places<D: NodeDisk>(
+    alloc: Global,
+    count: usize,
+    claim: FolderClaim<D>,
+) -> Option<Vec<Found<D>>>
+    ensures count { IfSome result (λ found. vec_len found ≡ count) }
+    ensures each { IfSome result (λ found. AreFound (OpensIn D.Disk D.NodeDisk.held) found.items) }
 {
     let Ok(mut found) = Vec::with_capacity(alloc, count) else {
         return None;
     };
+    let mut claims = claim.into_nodes();
     for _ in 0..count {
-        found.push_reserved(None);
+        found.push_reserved(claim_next(&mut claims));
     }
     Some(found)
+}
+
+// Opens what is at a place, if it exists and was not opened yet.
+fn find_there<D: NodeDisk>(folder: &Folder<'_>, it: &mut Found<D>)
+    ensures { (place : ℕ) → IsFoundAt (OpensIn D.Disk D.NodeDisk.held) place it.old
+        → IsFoundAt (OpensIn D.Disk D.NodeDisk.held) place it.new }
+{
+    let claimed = replace(it, Ok(Err(StoreFault::Device)));
+    *it = find(folder, claimed);
 }
 
 // Looks at each place. It looks at several at the same time if their files are short enough and if
@@ -77,6 +105,7 @@ fn find_each<D: NodeDisk + Send, R: Threads + Sync>(
     folder: Folder<'_>,
     found: &mut [Found<D>],
 )
+    requires { AreFound (OpensIn D.Disk D.NodeDisk.held) found.old }
     ensures count { length found.new ≡ length found.old }
     ensures each { AreFound (OpensIn D.Disk D.NodeDisk.held) found.new }
 {
@@ -84,27 +113,29 @@ fn find_each<D: NodeDisk + Send, R: Threads + Sync>(
     if count == 0 {
         return;
     }
-    let find_one = move |place: usize, it: &mut Found<D>|
-        ensures { IfSome it.exit.now (OpensIn _ D.NodeDisk.held place) }
+    let find_one = move |_place: usize, it: &mut Found<D>|
+        ensures { (at : ℕ) → IsFoundAt (OpensIn _ D.NodeDisk.held) at it.entry.now
+            → IsFoundAt (OpensIn _ D.NodeDisk.held) at it.exit.now }
     {
-        *it = find_at::<D>(&folder, place);
+        find_there::<D>(&folder, it);
     };
     thread::for_each_mut(rt, found, count_threads(&folder, count), &find_one);
 }
 
-// Opens the place after these. It takes what was found there, or makes it if nothing was found.
+// Opens the place after these. It takes what was found there, or makes it if its node still has its
+// claim.
 fn open_next<D: NodeDisk>(
     folder: &Folder<'_>,
     found: Found<D>,
     earlier: &[Journal<D>],
 ) -> Result<Journal<D>, StoreFault>
     requires earlier { AreOpened (OpensIn D.Disk D.NodeDisk.held) (length earlier.now) earlier.now }
-    requires found { IfSome found (OpensIn D.Disk D.NodeDisk.held (length earlier.now)) }
+    requires found { IsFoundAt (OpensIn D.Disk D.NodeDisk.held) (length earlier.now) found }
     ensures { OpensIn D.Disk D.NodeDisk.held (length earlier.now) result }
 {
     match found {
-        Some(outcome) => outcome,
-        None => make_next(folder, earlier),
+        Ok(outcome) => outcome,
+        Err(claim) => make_next(folder, claim, earlier),
     }
 }
 
@@ -122,7 +153,7 @@ fn open_in_order<D: NodeDisk>(
         (FailsAfter (OpensIn D.Disk D.NodeDisk.held) (length found.old) all.new.items) }
 {
     for place in 0..found.len() {
-        let it = found[place].take();
+        let it = replace(&mut found[place], Ok(Err(StoreFault::Device)));
         match open_next(folder, it, all.as_slice()) {
             Ok(it) => all.push_reserved(it),
             Err(fault) => return Some(fault),
@@ -134,7 +165,7 @@ fn open_in_order<D: NodeDisk>(
 // Closes everything that was found.
 fn close_found<D: Disk + Drop>(folder: &Folder<'_>, found: Vec<Found<D>>) {
     for it in found {
-        if let Some(Ok(it)) = it {
+        if let Ok(Ok(it)) = it {
             close_journal(folder, it);
         }
     }
@@ -143,12 +174,14 @@ fn close_found<D: Disk + Drop>(folder: &Folder<'_>, found: Vec<Found<D>>) {
 /// Opens the journals at the first `count` places: first those that exist, in parallel unless their
 /// files are long, and then the missing ones, in order. The fault names the first node whose place is
 /// refused, or says that memory for the list was refused. After a fault, nothing was made after that
-/// place, and everything that was opened is closed.
+/// place, and everything that was opened is closed. No node's files are opened twice, because an
+/// opening uses up the node's claim.
 pub(crate) fn open_all<D: NodeDisk + Send, R: Threads + Sync>(
     rt: &R,
     alloc: Global,
     folder: Folder<'_>,
     count: usize,
+    claim: FolderClaim<D>,
 ) -> Result<Vec<Journal<D>>, FolderFault>
     ensures all { IfOk result
         (λ all. AreOpened (OpensIn D.Disk D.NodeDisk.held) count all.items) }
@@ -157,7 +190,7 @@ pub(crate) fn open_all<D: NodeDisk + Send, R: Threads + Sync>(
     let Ok(mut all) = Vec::with_capacity(alloc, count) else {
         return Err(FolderFault::NoMemory);
     };
-    let Some(mut found) = prepare_places(alloc, count) else {
+    let Some(mut found) = prepare_places(alloc, count, claim) else {
         return Err(FolderFault::NoMemory);
     };
     find_each(rt, folder, found.as_mut_slice());

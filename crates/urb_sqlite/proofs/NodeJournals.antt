@@ -1,5 +1,5 @@
 -- What an opening finds, depending on what the files held, and one more journal after others.
-use Rattle.std.proofs.Common.{IsSome, List, None, Option, Some, SomeIff, [], arith, inl, inr, length}
+use Rattle.std.proofs.Common.{IsSome, List, MatchOption, None, Option, Some, [], arith, inl, inr, length}
 use Rattle.std.proofs.Common.{refl, slice_get, subst, suc, zero, ℕ, ◌++◌, ◌+◌, ◌<◌, ◌∷◌, ◌≡◌, ◌≤◌}
 use Rattle.sqlite_trees.specs.Tree.{Trees}
 use Rattle.sqlite_wal.specs.Recovery.{Image}
@@ -108,12 +108,24 @@ one_more before after next clean honest records held node grown counted earlier 
     (subst (λ n. IsFoundIn (held n) (clean next) (honest next) (records next)) counted last)
     i y (subst (λ xs. slice_get xs i ≡ Some y) grown got)
 
--- after some of a group's nodes there is a next one
-pub next_node : (node : Option ℕ) (at n : ℕ)
-    → SomeIff node ((0 < at + 1) × (at + 1 ≤ MAX_NODES)) (at + 1) → at < n → n ≤ MAX_NODES
-    → IsSome node
-next_node None at n is less most = absurd (is (omega (arith), omega (arith, less, most)))
-next_node (Some node) at n is less most = refl
+-- there is a claim for the next node of a group
+pub next_claim : (claim : Option ℕ) (old new at n : ℕ)
+    → MatchOption claim ((new ≡ old) × (MAX_NODES ≤ old))
+    (λ c. (old < MAX_NODES) × (c ≡ suc old) × (new ≡ suc old))
+    → old ≡ at → at < n → n ≤ MAX_NODES → IsSome claim
+next_claim None old new at n is same less most =
+    absurd (omega (arith, is.1, same, less, most))
+next_claim (Some claim) old new at n is same less most = refl
+
+-- the claim that was given is that of the next node, and the node after it is next
+pub claimed : (claim : Option ℕ) (it old new at : ℕ)
+    → MatchOption claim ((new ≡ old) × (MAX_NODES ≤ old))
+    (λ c. (old < MAX_NODES) × (c ≡ suc old) × (new ≡ suc old))
+    → claim ≡ Some it → old ≡ at → (it ≡ suc at) × (new ≡ at + 1)
+claimed None it old new at is given same = absurd (let e = given in cc)
+claimed (Some claim) it old new at is given same =
+    let e : claim ≡ it = (let f = given in cc) in
+    (omega (arith, is.1, e, same), omega (arith, is.2, same))
 
 -- a loop over `end` places that has ended has made as many
 pub made_all : (count at end n : ℕ) → count ≡ at → end ≤ at → at ≤ end → end ≡ n → count ≡ n

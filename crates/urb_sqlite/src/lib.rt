@@ -3,7 +3,7 @@
 //! It is a `Stable` of `urb_stable`.
 //!
 //! ```text
-//! let journal = open_node::<D>(rt, path, node)?;        // makes absent tables, and reads all rows
+//! let journal = open_node::<D>(rt, path, claim)?;       // makes absent tables, and reads all rows
 //! let receipt = draft.keep(&mut journal)?;              // one INSERT, one commit, one sync
 //! close_node(rt, path, journal)?;                       // one file is left
 //! ```
@@ -14,6 +14,7 @@
 //! removed.
 #![tactic(auto)]
 
+mod claims;
 mod counting;
 mod journal;
 mod journal_close;
@@ -28,6 +29,7 @@ mod rows;
 mod sql;
 mod table_shape;
 
+pub use claims::{FolderClaim, Named, NodeClaim, NodeClaims, Opening};
 pub use journal::SqlStable;
 pub use journal_close::Copied;
 pub use message_pool::MessagePool;

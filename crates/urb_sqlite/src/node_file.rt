@@ -9,6 +9,7 @@ ghost use Rattle.sqlite_wal.specs.Files.{image_at};
 ghost use Rattle.sqlite_wal.specs.Recovery.{Image};
 ghost use Rattle.urb_sqlite.specs.FoundJournals.{held_by};
 
+use crate::claims::{Named, NodeClaim, Opening};
 use sqlite::{FileFrom, Files, Start};
 use sqlite_disk::{Disk, Tally};
 use sqlite_std_file::OpenError;
@@ -16,54 +17,65 @@ use std::io;
 use std::io::ErrorKind;
 use std::marker::Brand;
 use std::rt::HostRuntime;
-use urb_names::{MAX_NODES, NodeId};
+use urb_names::MAX_NODES;
 use urb_stable::StoreFault;
 
 /// The files of a group's nodes, as one type. What is proved for all `D: NodeDisk` is proved for
 /// all contents of the files, because `NodeFile<K>` is such a type for each `K: Contents`.
 pub trait NodeDisk: Disk + Drop {
     /// What the log and the database file of each node held when they were opened, by the node's
-    /// number. Under one type the files of a node are opened once.
+    /// number. Under one type the files of a node are opened once, because the opening uses up the
+    /// node's claim.
     ghost held: { ℕ → Image };
 
-    /// Opens the log and the database file of a node at this path, and makes them if they are
-    /// missing. `NoMemory`: memory was refused. `Device`: they can't be opened.
-    fn open_files(rt: &HostRuntime, path: &str, node: NodeId) -> Result<Files<Self>, StoreFault>
+    /// Opens the log and the database file of the claim's node at this path, and makes them if they
+    /// are missing. `NoMemory`: memory was refused. `Device`: they can't be opened.
+    fn open_files(
+        rt: &HostRuntime,
+        path: &str,
+        claim: NodeClaim<Self>,
+    ) -> Result<Files<Self>, StoreFault>
         ensures fault { IfErr result (λ e. (e ≡ StoreFault.NoMemory) ⊎ (e ≡ StoreFault.Device)) }
         ensures usable { IfOk result (λ files. IsTrue (Self.Disk.is_usable files.log)
             × IsTrue (Self.Disk.is_usable files.db)) }
-        ensures held { IfOk result (λ files. image_of Self.Disk files ≡ held node) };
+        ensures held { IfOk result (λ files. image_of Self.Disk files ≡ held claim) };
 }
 
 /// What the files of each node's journal held when they were opened. No code can read it. What is
 /// proved for `K: Contents` is proved for all contents, and so also for what the files really held.
-/// Under one `K` the files of a node are opened once.
+/// Under one `K` the files of a node are opened once (`NodeClaim`).
 pub trait Contents: Drop {
     /// Stands for what the files of node 1 held.
-    type First: Start + Default + Send;
+    type First: Start + Named + Send;
 
     /// Stands for what the files of node 2 held.
-    type Second: Start + Default + Send;
+    type Second: Start + Named + Send;
 
     /// Stands for what the files of node 3 held.
-    type Third: Start + Default + Send;
+    type Third: Start + Named + Send;
 
     /// Stands for what the files of node 4 held.
-    type Fourth: Start + Default + Send;
+    type Fourth: Start + Named + Send;
 
     /// Stands for what the files of node 5 held.
-    type Fifth: Start + Default + Send;
+    type Fifth: Start + Named + Send;
 
     /// Stands for what the files of node 6 held.
-    type Sixth: Start + Default + Send;
+    type Sixth: Start + Named + Send;
 
     /// Stands for what the files of node 7 held.
-    type Seventh: Start + Default + Send;
+    type Seventh: Start + Named + Send;
 }
 
 /// The type for programs. It says nothing about a file that is not empty.
-#[derive(Drop, Default)]
+#[derive(Drop)]
 pub struct Unnamed;
+
+impl Named for Unnamed {
+    fn name(_opening: Opening) -> Unnamed {
+        Unnamed
+    }
+}
 
 impl Start for Unnamed {
     ghost log = { [] };
@@ -299,10 +311,11 @@ impl<K: Contents> Disk for NodeFile<K> {
     }
 }
 
-/// Opens the files at this path. `S` names what they hold.
-fn open_files_at<S: Start + Default>(
+/// Opens the files at this path, once. `S` names what they hold.
+fn open_files_at<S: Start + Named>(
     rt: &HostRuntime,
     path: &str,
+    opening: Opening,
 ) -> Result<Files<FileFrom<S>>, StoreFault>
     ensures fault { IfErr result (λ e. (e ≡ StoreFault.NoMemory) ⊎ (e ≡ StoreFault.Device)) }
     ensures usable { IfOk result (λ files. IsTrue (⟦<FileFrom<S> as Disk>⟧.is_usable files.log)
@@ -310,7 +323,7 @@ fn open_files_at<S: Start + Default>(
     ensures held { IfOk result
         (λ files. image_of ⟦<FileFrom<S> as Disk>⟧ files ≡ image_at S.Start) }
 {
-    match sqlite_std_file::open(rt, path, S::default()) {
+    match sqlite_std_file::open(rt, path, S::name(opening)) {
         Ok(files) => Ok(files),
         Err(OpenError::OutOfMemory) => Err(StoreFault::NoMemory),
         Err(OpenError::Io(error)) if error.kind() == ErrorKind::OutOfMemory => {
@@ -325,8 +338,8 @@ const _: () = prove!(MAX_NODES <= 7);
 
 /// Opens the files at this path as those of the node with this variant.
 macro_rules! open_as {
-    ($variant:ident, $rt:expr, $path:expr) => {
-        match open_files_at::<K::$variant>($rt, $path) {
+    ($variant:ident, $rt:expr, $path:expr, $opening:expr) => {
+        match open_files_at::<K::$variant>($rt, $path, $opening) {
             Ok(files) => Ok(Files {
                 log: NodeFile::$variant(files.log),
                 db: NodeFile::$variant(files.db),
@@ -340,15 +353,27 @@ impl<K: Contents> NodeDisk for NodeFile<K> {
     ghost held = { held_by K.First.Start K.Second.Start K.Third.Start K.Fourth.Start K.Fifth.Start
         K.Sixth.Start K.Seventh.Start };
 
-    fn open_files(rt: &HostRuntime, path: &str, node: NodeId) -> Result<Files<Self>, StoreFault> {
+    fn open_files(
+        rt: &HostRuntime,
+        path: &str,
+        claim: NodeClaim<NodeFile<K>>,
+    ) -> Result<Files<NodeFile<K>>, StoreFault>
+        ensures fault { IfErr result (λ e. (e ≡ StoreFault.NoMemory) ⊎ (e ≡ StoreFault.Device)) }
+        ensures usable { IfOk result (λ files. IsTrue (⟦<NodeFile<K> as Disk>⟧.is_usable files.log)
+            × IsTrue (⟦<NodeFile<K> as Disk>⟧.is_usable files.db)) }
+        ensures held { IfOk result (λ files. image_of ⟦<NodeFile<K> as Disk>⟧ files
+            ≡ held_by K.First.Start K.Second.Start K.Third.Start K.Fourth.Start K.Fifth.Start
+            K.Sixth.Start K.Seventh.Start claim) }
+    {
+        let (node, opening) = claim.use_up();
         match node.number() {
-            1 => open_as!(First, rt, path),
-            2 => open_as!(Second, rt, path),
-            3 => open_as!(Third, rt, path),
-            4 => open_as!(Fourth, rt, path),
-            5 => open_as!(Fifth, rt, path),
-            6 => open_as!(Sixth, rt, path),
-            _ => open_as!(Seventh, rt, path),
+            1 => open_as!(First, rt, path, opening),
+            2 => open_as!(Second, rt, path, opening),
+            3 => open_as!(Third, rt, path, opening),
+            4 => open_as!(Fourth, rt, path, opening),
+            5 => open_as!(Fifth, rt, path, opening),
+            6 => open_as!(Sixth, rt, path, opening),
+            _ => open_as!(Seventh, rt, path, opening),
         }
     }
 }

@@ -10,7 +10,7 @@ ghost use Rattle.urb_sqlite.specs.FoundJournals.{AreFoundIn, IsFoundIn};
 ghost use Rattle.urb_sqlite.specs.internal.LogLengths.{AreLogPages};
 
 use crate::journal_close::close_and_remove_log;
-use crate::{NodeDisk, SqlStable};
+use crate::{FolderClaim, NodeClaim, NodeDisk, SqlStable};
 use sqlite::{FileStore, Files, Options};
 use sqlite_disk::Disk;
 use sqlite_wal::probe_page_size;
@@ -57,17 +57,17 @@ fn log_pages<D: Disk>(files: &mut Files<D>) -> Result<usize, StoreFault>
     }
 }
 
-/// Opens the journal of a node at this path, as `SqlStable::open` does. It is for a program that
-/// opens one journal for each node, and continues with what it stored before.
+/// Opens the journal of the claim's node at this path, as `SqlStable::open` does. It is for a
+/// program that opens one journal for each node, and continues with what it stored before.
 pub fn open_node<D: NodeDisk>(
     rt: &HostRuntime,
     path: &str,
-    node: NodeId,
+    claim: NodeClaim<D>,
 ) -> Result<NodeJournal<D>, StoreFault>
     ensures fault { IfErr result (λ e. is_place e ≡ false) }
     // A journal that was in the node's files is found with its records. If the database file was
     // empty, the journal has none.
-    ensures found { IfOk result (λ j. IsFoundIn (D.NodeDisk.held node)
+    ensures found { IfOk result (λ j. IsFoundIn (D.NodeDisk.held claim)
         (⟦<NodeJournal<D> as Stable>⟧.is_clean j) (⟦<NodeJournal<D> as Stable>⟧.is_honest j)
         (⟦<NodeJournal<D> as Stable>⟧.certain j)) }
 {
@@ -79,7 +79,7 @@ pub fn open_node<D: NodeDisk>(
         return Err(StoreFault::Device);
     };
     let mut options = Options::new(random.hash_one(&0u8));
-    let mut files = D::open_files(rt, path, node)?;
+    let mut files = D::open_files(rt, path, claim)?;
     options.checkpoint_frames = log_pages(&mut files)?;
     SqlStable::open_files(rt.alloc(), files, options)
 }
@@ -94,22 +94,23 @@ fn prefix_of(directory: &str) -> &'static str {
     }
 }
 
-/// Opens the journal of one node in this directory, `node-P.db`, as `open_node` does. It is for a
-/// program that opens the journals of its nodes in parallel. `open_nodes` opens them one after the
-/// other.
+/// Opens the journal of the claim's node in this directory, `node-P.db`, as `open_node` does. It is
+/// for a program that opens the journals of its nodes in parallel. `open_nodes` opens them one after
+/// the other.
 pub fn open_node_in<D: NodeDisk>(
     rt: &HostRuntime,
     directory: &str,
-    node: NodeId,
+    claim: NodeClaim<D>,
 ) -> Result<NodeJournal<D>, StoreFault>
     ensures fault { IfErr result (λ e. is_place e ≡ false) }
-    ensures found { IfOk result (λ j. IsFoundIn (D.NodeDisk.held node)
+    ensures found { IfOk result (λ j. IsFoundIn (D.NodeDisk.held claim)
         (⟦<NodeJournal<D> as Stable>⟧.is_clean j) (⟦<NodeJournal<D> as Stable>⟧.is_honest j)
         (⟦<NodeJournal<D> as Stable>⟧.certain j)) }
 {
     let prefix = prefix_of(directory);
-    let path = format!(in rt.alloc(); "{prefix}{directory}/node-{}.db", node.number())?;
-    open_node(rt, path.as_str(), node)
+    let number = claim.node().number();
+    let path = format!(in rt.alloc(); "{prefix}{directory}/node-{number}.db")?;
+    open_node(rt, path.as_str(), claim)
 }
 
 /// Opens the journals of all nodes of a group, `node-1.db`, `node-2.db` and so on, in this
@@ -119,6 +120,7 @@ pub fn open_nodes<D: NodeDisk>(
     rt: &HostRuntime,
     directory: &str,
     config: Config,
+    claim: FolderClaim<D>,
 ) -> Result<Vec<NodeJournal<D>>, (NodeId, StoreFault)>
     ensures fault { IfErr result (λ e. is_place e.1 ≡ false) }
     // There is one for each node, in order.
@@ -132,9 +134,11 @@ pub fn open_nodes<D: NodeDisk>(
     let Ok(mut journals) = Vec::with_capacity(rt.alloc(), usize::from(n)) else {
         return Err((NodeId::new(1).unwrap(), StoreFault::NoMemory));
     };
-    for at in 0..n {
-        let node = NodeId::new(at + 1).unwrap();
-        match open_node_in(rt, directory, node) {
+    let mut claims = claim.into_nodes();
+    for _ in 0..n {
+        let claim = claims.take_next().unwrap();
+        let node = claim.node();
+        match open_node_in(rt, directory, claim) {
             Ok(journal) => journals.push_reserved(journal),
             Err(fault) => {
                 let _ = close_nodes(rt, directory, journals);

@@ -14,11 +14,12 @@ ghost use Rattle.urb_worker.specs.internal.Desks.{IsWork};
 ghost use Rattle.urb_worker.specs.internal.SeenEvents.{Follows};
 ghost use Rattle.urb_worker.specs.Settlings.{told_in};
 
+use crate::desk_queue::DeskQueue;
 use crate::loans::copy_moment;
 use crate::responses::{down_response, response_to_read, response_to_turn};
-use crate::{Finished, Job, NodeService, Ticket};
-use crossbeam_channel::SendError;
-use std::alloc::{AllocError, Global};
+use crate::node_service::DeskService;
+use crate::{Finished, Job, NodeService};
+use std::alloc::Global;
 use std::marker::Model;
 use std::sync::Wait;
 use std::time::{Clock, Duration, Instant};
@@ -35,14 +36,16 @@ pub struct NodeDesk<'a, K: HouseName, R: Wait + Clock> {
     rt: &'a R,
     alloc: Global,
     node: NodeId,
-    service: NodeService<'a, K>,
+    // The way to the node's worker. Only what a request asks at the node goes through it.
+    queue: DeskQueue<'a, K>,
+    service: DeskService<'a, K>,
     position: ReadPosition<K>,
     // The latest moment of the House that it has seen.
     seen: Option<Moment<K>>,
 }
 
 impl<'a, K: HouseName, R: Wait + Clock> Model for NodeDesk<'a, K, R> {
-    ghost use Rattle.std.specs.Prelude.{◌≤◌, length};
+    ghost use Rattle.std.specs.Prelude.{◌≡◌, ◌≤◌, length};
     ghost use Rattle.urb_worker.specs.Desks.{DeskView, events_until};
 
     ghost Value = { DeskView };
@@ -53,7 +56,7 @@ impl<'a, K: HouseName, R: Wait + Clock> Model for NodeDesk<'a, K, R> {
       past = events_until d.seen;
     } };
 
-    ghost invariant = { λ d. d.node ≤ length K.base };
+    ghost invariant = { λ d. (d.node ≤ length K.base) × (d.queue ≡ d.node) };
 }
 
 impl<'a, K: HouseName, R: Wait + Clock> NodeDesk<'a, K, R> {
@@ -69,12 +72,26 @@ impl<'a, K: HouseName, R: Wait + Clock> NodeDesk<'a, K, R> {
         requires { node ≤ length K.base }
         ensures { result ≡ record { node = node; known = position; past = [] } }
     {
+        let NodeService {
+            queue,
+            places,
+            readers,
+            bell,
+            in_flight,
+            stop,
+        } = service;
         let seen = None;
         NodeDesk {
             rt,
             alloc,
             node,
-            service,
+            queue: DeskQueue::new(node, queue, places),
+            service: DeskService {
+                readers,
+                bell,
+                in_flight,
+                stop,
+            },
             position,
             seen,
         }
@@ -89,52 +106,11 @@ impl<'a, K: HouseName, R: Wait + Clock> NodeDesk<'a, K, R> {
             rt: self.rt,
             alloc: self.alloc,
             node: self.node,
+            queue: self.queue.copy(),
             service: self.service.copy(),
             position: self.position.copy(),
             seen: copy_moment(&self.seen),
         }
-    }
-
-    // The job at the desk's node that does what a request asks.
-    fn job_of(&self, request: &Request) -> Result<Job, NoMemory>
-        requires { IsWork (asked_by request.now) }
-        ensures { IfOk result (λ job. IsJobOf self.now.node (asked_by request.now) job) }
-    {
-        let node = self.node;
-        match request {
-            Request::Read { .. } | Request::Wait { .. } => unreachable!(),
-            Request::Submit {
-                client,
-                number,
-                payload,
-            } => Ok(Job::Submit {
-                node,
-                client: *client,
-                number: *number,
-                payload: payload.share(self.alloc)?,
-            }),
-            Request::Status => Ok(Job::Status(node)),
-            Request::Crash => Ok(Job::Crash(node)),
-            Request::Restart => Ok(Job::Restart(node)),
-        }
-    }
-
-    // Sends a job to the worker, and returns the result. `None` if the worker has ended. Before
-    // that it waits for a place for the ticket.
-    fn ask_worker(&self, job: Job) -> Result<Option<Finished<K>>, NoMemory> {
-        let (to, from) = crossbeam_channel::bounded(self.alloc, 1)?;
-        let ticket = Ticket {
-            job,
-            answer: Some(to),
-        };
-        self.service.places.take(self.rt);
-        let came = match self.service.queue.send(self.rt, ticket) {
-            Ok(()) => Ok(from.recv(self.rt).ok()),
-            Err(SendError::Disconnected(_)) => Ok(None),
-            Err(SendError::OutOfMemory(_)) => Err(NoMemory::from(AllocError)),
-        };
-        self.service.places.give_back(self.rt);
-        came
     }
 
     // Learns what a turn published, if anything, and the moment when it ended, if there was one.
@@ -214,8 +190,7 @@ impl<'a, K: HouseName, R: Wait + Clock> NodeDesk<'a, K, R> {
             × IsPrefix self.old.past self.new.past) }
         ensures refused { OnErr result (self.new ≡ self.old) }
     {
-        let job = self.job_of(request)?;
-        let came = self.ask_worker(job)?;
+        let came = self.queue.ask(self.rt, self.alloc, request)?;
         Ok(self.respond(request, came))
     }
 

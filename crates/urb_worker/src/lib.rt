@@ -50,6 +50,7 @@ mod connections;
 mod counting;
 mod desk;
 pub mod desk_laws;
+mod desk_queue;
 mod door;
 mod feeding;
 mod frame_progress;

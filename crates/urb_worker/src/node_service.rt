@@ -21,12 +21,19 @@ pub struct NodeService<'a, K: HouseName> {
     pub stop: &'a Stop,
 }
 
-impl<'a, K: HouseName> NodeService<'a, K> {
+/// What a desk has of its node's service, beside the queue.
+#[derive(Drop)]
+pub(crate) struct DeskService<'a, K: HouseName> {
+    pub(crate) readers: &'a ReaderPool<K>,
+    pub(crate) bell: &'a Bell,
+    pub(crate) in_flight: &'a InFlight,
+    pub(crate) stop: &'a Stop,
+}
+
+impl<'a, K: HouseName> DeskService<'a, K> {
     /// The same, for another desk.
-    pub(crate) fn copy(&self) -> NodeService<'a, K> {
-        NodeService {
-            queue: self.queue,
-            places: self.places,
+    pub(crate) fn copy(&self) -> DeskService<'a, K> {
+        DeskService {
             readers: self.readers,
             bell: self.bell,
             in_flight: self.in_flight,

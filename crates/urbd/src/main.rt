@@ -4,8 +4,9 @@
 use std::marker::Brand;
 use std::process::ExitCode;
 use urb_daemon::run_program;
-use urb_folder::NodeFile;
+use urb_folder::{FolderClaim, NodeFile};
 
 fn main(rt: HostRuntime) -> ExitCode {
-    ExitCode::from(run_program::<NodeFile<Brand>, _, _, _, _>(rt, &rt, &rt, rt.reader(), rt))
+    let claim = FolderClaim::new();
+    ExitCode::from(run_program::<NodeFile<Brand>, _, _, _, _>(rt, &rt, &rt, rt.reader(), rt, claim))
 }

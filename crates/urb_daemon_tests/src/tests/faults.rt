@@ -10,7 +10,7 @@ use std::test::Fail;
 use std::thread::Threads;
 use urb_cli::ServeOptions;
 use urb_daemon::report_folder_fault;
-use urb_folder::{NodeFile, close_journals, open_journals};
+use urb_folder::{FolderClaim, NodeFile, close_journals, open_journals};
 use urb_terminal::Terminal;
 
 const FOLDER: &str = "urbd_faults";
@@ -28,7 +28,7 @@ fn line_of<R: Threads + Sync + Net<Listener = TcpListener, Stream = TcpStream>>(
 ) -> Option<Vec<u8>> {
     let serving = ServeOptions::new(2, 100, FOLDER, 7400, 20)?;
     let terminal = Terminal::new(rt.alloc(), &[], b"", true);
-    match open_journals::<NodeFile<Brand>, R>(threads, rt, FOLDER, 2) {
+    match open_journals::<NodeFile<Brand>, R>(threads, rt, FOLDER, 2, FolderClaim::new()) {
         Ok(journals) => {
             close_journals(rt, FOLDER, journals);
             None
@@ -64,7 +64,7 @@ fn a_refused_folder_is_named_with_its_cause(rt: HostRuntime) -> Result<(), Fail>
 #[test]
 fn a_refused_journal_is_named_with_its_cause(rt: HostRuntime) -> Result<(), Fail> {
     assert!(rt; is_cleared(&rt, FOLDER));
-    let Ok(held) = open_journals::<NodeFile<Brand>, HostRuntime>(&rt, &rt, FOLDER, 1) else {
+    let Ok(held) = open_journals::<NodeFile<Brand>, HostRuntime>(&rt, &rt, FOLDER, 1, FolderClaim::new()) else {
         return Err("a journal".into());
     };
     let line = b"urbd: refused 15 0: urbd_faults/node-1.db: another process holds it\n".as_slice();

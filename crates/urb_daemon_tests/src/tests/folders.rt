@@ -8,7 +8,7 @@ use std::os::unix::fs::{MetadataExt, PermissionsExt};
 use std::rt::HostRuntime;
 use std::test::Fail;
 use std::thread::Threads;
-use urb_folder::{FolderFault, Journal, NodeFile, close_journals, open_journals};
+use urb_folder::{FolderClaim, FolderFault, Journal, NodeFile, close_journals, open_journals};
 
 const FOLDER: &str = "urbd_folder";
 
@@ -33,7 +33,7 @@ fn open_two<R: Threads + Sync>(
     threads: &R,
     rt: &HostRuntime,
 ) -> Result<Vec<Journal<NodeFile<Brand>>>, FolderFault> {
-    open_journals::<NodeFile<Brand>, R>(threads, rt, FOLDER, 2)
+    open_journals::<NodeFile<Brand>, R>(threads, rt, FOLDER, 2, FolderClaim::new())
 }
 
 #[test]

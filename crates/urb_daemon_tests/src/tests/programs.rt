@@ -14,7 +14,7 @@ use std::test::Fail;
 use std::{fs, io};
 use urb_cli::{CallFault, NodeAddress, Printed, ReadOptions, SubmitOptions, read_at, submit_at};
 use urb_daemon::{Host, run_program};
-use urb_folder::NodeFile;
+use urb_folder::{FolderClaim, NodeFile};
 use urb_terminal::{Shown, Terminal};
 
 /// An output for errors that keeps what it shows.
@@ -83,7 +83,9 @@ where
         shown: sends,
     };
     let terminal = Terminal::new(alloc, words, b"", open);
-    let status = run_program::<NodeFile<Brand>, _, _, _, _>(rt, files, &terminal, input, output);
+    let claim = FolderClaim::new();
+    let status =
+        run_program::<NodeFile<Brand>, _, _, _, _>(rt, files, &terminal, input, output, claim);
     let mut shown = terminal.into_shown(status);
     for text in errors.iter(&rt) {
         if is_kept(text.as_str()) {

@@ -11,7 +11,7 @@ use std::time::{Clock, Duration};
 use std::{fs, io, thread};
 use urb_cli::{Fault, ServeOptions};
 use urb_daemon::{Console, Host, fault_of_folder, fault_of_serve, run_journals};
-use urb_folder::{NodeFile, close_journals, open_journals};
+use urb_folder::{FolderClaim, NodeFile, close_journals, open_journals};
 use urb_terminal::Terminal;
 use urb_worker::Silent;
 
@@ -189,7 +189,7 @@ where
     R: Host + Net<Listener = TcpListener, Stream = TcpStream>,
 {
     let (dir, nodes) = (serving.dir, serving.nodes);
-    let journals = match open_journals::<NodeFile<Brand>, R>(threads, rt, dir, nodes) {
+    let journals = match open_journals::<NodeFile<Brand>, R>(threads, rt, dir, nodes, FolderClaim::new()) {
         Ok(journals) => journals,
         Err(why) => return Err(fault_of_folder(why)),
     };
@@ -280,7 +280,7 @@ pub fn open_and_leave<R: Threads + Sync>(
     nodes: u8,
     leave: Leave,
 ) -> Result<(), Fault> {
-    let journals = match open_journals::<NodeFile<Brand>, R>(threads, rt, folder, nodes) {
+    let journals = match open_journals::<NodeFile<Brand>, R>(threads, rt, folder, nodes, FolderClaim::new()) {
         Ok(journals) => journals,
         Err(why) => return Err(fault_of_folder(why)),
     };

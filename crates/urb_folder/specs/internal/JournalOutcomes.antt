@@ -16,14 +16,18 @@ use Rattle.urb_folder.specs.declared.journal.Journal.{Journal}
 use Rattle.urb_folder.specs.internal.OpenedPlaces.{FailsAfter}
 
 module _ {D : Type 0} (g : disk.Ghosts D) where
-  -- An outcome of opening the journal of the node at this place. It is the node's journal, found
-  -- with what the node's files held. Or it is a fault other than Place.
-  abbrev pub OpensIn : (ℕ → Image) → ℕ → Result (Journal D g) StoreFault → Type 0
-  OpensIn held place outcome = MatchResult outcome
-      (λ j. (j.node ≡ suc place) × IsFoundIn (held (suc place))
+  -- An outcome of opening the journal of this node. It is the node's journal, found with what the
+  -- node's files held. Or it is a fault other than Place.
+  abbrev pub OpensOf : (ℕ → Image) → ℕ → Result (Journal D g) StoreFault → Type 0
+  OpensOf held node outcome = MatchResult outcome
+      (λ j. (j.node ≡ node) × IsFoundIn (held node)
       (HasCleanDisk (file_state j.journal.conn)) (IsHonestJournal (file_state j.journal.conn))
       (records_of (file_state j.journal.conn).now))
       (λ fault. is_place fault ≡ false)
+
+  -- the same, for the node at this place
+  abbrev pub OpensIn : (ℕ → Image) → ℕ → Result (Journal D g) StoreFault → Type 0
+  OpensIn held place = OpensOf held (suc place)
 
   -- The journals of `count` nodes couldn't be opened. The fault names the first node whose journal
   -- is refused, all before it were opened. Or memory was refused.

@@ -1,13 +1,22 @@
 -- What is opened at several places: all of it, or everything up to the first fault. Each place has
 -- its possible outcomes.
-use Rattle.std.specs.Prelude.{Err, IfSome, List, Ok, Option, Result, Some, length, slice_get, ℕ}
-use Rattle.std.specs.Prelude.{◌<◌, ◌≡◌}
+use Rattle.std.specs.Prelude.{Err, List, MatchResult, Ok, Result, Some, length, slice_get, suc, ℕ}
+use Rattle.std.specs.Prelude.{◌<◌, ◌≡◌, ◌≤◌, ◌⊎◌}
+use Rattle.urb_names.specs.declared.limits.TheConstants.{MAX_NODES}
+
+-- the claims of the first nodes, as many as this number, were given, or those of all nodes
+abbrev pub IsGiven : ℕ → ℕ → Type 0
+IsGiven count given = (given ≡ count) ⊎ (MAX_NODES ≤ given)
 
 module _ {J E : Type 0} (opens : ℕ → Result J E → Type 0) where
-  -- at each place nothing was found, or an outcome of opening what belongs there
-  abbrev pub AreFound : List (Option (Result J E)) → Type 0
+  -- at this place there is an outcome of opening what belongs there, or still its node's claim
+  abbrev pub IsFoundAt : ℕ → Result (Result J E) ℕ → Type 0
+  IsFoundAt place it = MatchResult it (opens place) (λ claim. claim ≡ suc place)
+
+  -- the same at each place
+  abbrev pub AreFound : List (Result (Result J E) ℕ) → Type 0
   AreFound found =
-      (place : ℕ) (it : _) → slice_get found place ≡ Some it → IfSome it (opens place)
+      (place : ℕ) (it : _) → slice_get found place ≡ Some it → IsFoundAt place it
 
   -- `count` of them were opened, each at its place
   pub record AreOpened (count : ℕ) (all : List J) : Type 0 where

@@ -10,8 +10,7 @@ use std::fs;
 use std::marker::Brand;
 use std::rt::HostRuntime;
 use std::test::Fail;
-use urb_names::NodeId;
-use urb_sqlite::{NodeFile, close_node, open_node};
+use urb_sqlite::{FolderClaim, NodeClaim, NodeFile, close_node, open_node};
 use urb_stable::StoreFault;
 
 const FOLDER: &str = "urb_sqlite_first";
@@ -211,10 +210,19 @@ static BEFORE: [Case; 7] = [
 /// A record that is stored after those that are there.
 const MORE: Kept = (Form::Certificate, 9, Load::Of(b""));
 
+// The right to open the files of node 1.
+fn first_claim() -> Option<NodeClaim<NodeFile<Brand>>> {
+    let mut claims = FolderClaim::new().into_nodes();
+    claims.take_next()
+}
+
 // Whether node 1's journal opens at this position, and can be closed. If records are given, it has
 // these, and takes one more.
 fn is_opened(rt: &HostRuntime, kept: Option<&[Kept]>, next: u32) -> bool {
-    let Ok(journal) = open_node::<NodeFile<Brand>>(rt, FILE, NodeId::new(1).unwrap()) else {
+    let Some(claim) = first_claim() else {
+        return false;
+    };
+    let Ok(journal) = open_node(rt, FILE, claim) else {
         return false;
     };
     let mut place = Place::with(rt.alloc(), journal);
@@ -289,7 +297,10 @@ static BAD: [(&'static str, u32); 3] = [
 
 // Whether the journal is refused because of this row.
 fn is_refused(rt: &HostRuntime, place: u32) -> bool {
-    match open_node::<NodeFile<Brand>>(rt, FILE, NodeId::new(1).unwrap()) {
+    let Some(claim) = first_claim() else {
+        return false;
+    };
+    match open_node(rt, FILE, claim) {
         Ok(journal) => {
             drop(journal);
             false

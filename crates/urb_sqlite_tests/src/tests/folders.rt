@@ -9,7 +9,7 @@ use std::fs;
 use std::marker::Brand;
 use std::rt::HostRuntime;
 use std::test::Fail;
-use urb_sqlite::{NodeFile, close_nodes, open_nodes};
+use urb_sqlite::{FolderClaim, NodeFile, close_nodes, open_nodes};
 use urb_stable::{Stable, StoreFault};
 
 const FOLDER: &str = "urb_sqlite_folder";
@@ -133,7 +133,7 @@ static DAMAGES: [(&'static str, Damage, Said); 18] = [
 
 // What the group over the files says about the events. Its journals are closed.
 fn run_over_files(rt: &HostRuntime, events: &[Event]) -> Said {
-    match open_nodes::<NodeFile<Brand>>(rt, FOLDER, three()) {
+    match open_nodes::<NodeFile<Brand>>(rt, FOLDER, three(), FolderClaim::new()) {
         Ok(journals) => {
             let (journals, said) = run(rt.alloc(), journals, events);
             if close_nodes(rt, FOLDER, journals).is_ok() {
@@ -188,7 +188,7 @@ fn is_right(rt: &HostRuntime, (sql, damage, wanted): &(&str, Damage, Said)) -> b
 fn a_file_that_is_new_has_small_pages(rt: HostRuntime) -> Result<(), Fail> {
     let _ = fs::remove_dir_all(&rt, FOLDER);
     fs::create_dir(&rt, FOLDER)?;
-    let Ok(journals) = open_nodes::<NodeFile<Brand>>(&rt, FOLDER, three()) else {
+    let Ok(journals) = open_nodes::<NodeFile<Brand>>(&rt, FOLDER, three(), FolderClaim::new()) else {
         return Err(Fail::new(format_args!("they do not open")));
     };
     let is_closed = close_nodes(&rt, FOLDER, journals).is_ok();
@@ -253,7 +253,7 @@ fn are_stored<S: Stable<Alloc = Global>>(alloc: Global, stores: &mut [S]) -> boo
 
 // Whether a group's journals are opened, store a record each, and are closed.
 fn are_closed(rt: &HostRuntime) -> bool {
-    match open_nodes::<NodeFile<Brand>>(rt, "urb_sqlite_nodes", three()) {
+    match open_nodes::<NodeFile<Brand>>(rt, "urb_sqlite_nodes", three(), FolderClaim::new()) {
         Ok(mut journals) => {
             let are_stored = are_stored(rt.alloc(), &mut journals);
             close_nodes(rt, "urb_sqlite_nodes", journals).is_ok() && are_stored

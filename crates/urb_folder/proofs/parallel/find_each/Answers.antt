@@ -1,7 +1,9 @@
 use denote.Param.Send.{param_send}
-use Rattle.std.proofs.Common.{IfSome, length, rules, subst, sym, ◌<◌, ◌∙◌, ◌≡◌}
+use Rattle.std.proofs.Common.{length, subst, sym, ◌<◌, ◌∙◌, ◌≡◌}
+use Rattle.std.proofs.Common.{rules}
 use Rattle.urb_folder.specs.internal.JournalOutcomes.{OpensIn}
-use Rattle.urb_folder.proofs.PlacesInOrder.{none_there, read_there}
+use Rattle.urb_folder.specs.internal.OpenedPlaces.{IsFoundAt}
+use Rattle.urb_folder.proofs.PlacesInOrder.{get_there, none_there, read_there}
 use Rattle.urb_folder.proofs.SendableFiles.{found_send}
 use Rattle.urb_folder.proofs.parallel.find_each.Goals as goal
 
@@ -16,8 +18,11 @@ returns-clause-each g c =
     let held = g.D.NodeDisk.held in
     let same : length c.args.found.now ≡ length c.for_each_mut.new.s = search rules in
     let got = read_there c.for_each_mut.new.s place it it there in
-    let at = (c.for_each_mut.ensures place it (subst (λ n. place < n) (sym same) got.0)).1 in
-    subst (λ after. IfSome after (OpensIn _ held place)) (at.left ∙ got.1) at.call
+    let within = subst (λ n. place < n) (sym same) got.0 in
+    let was = c.requires place _ (get_there c.args.found.now place it within) in
+    let at = (c.for_each_mut.ensures place it within).1 in
+    subst (λ after. IsFoundAt (OpensIn _ held) place after) (at.left ∙ got.1)
+    (at.call place (subst (λ before. IsFoundAt (OpensIn _ held) place before) (sym at.argument_is) was))
 
 pub returns-then-count-eq0-clause-each : goal.returns-then-count-eq0-clause-each
 returns-then-count-eq0-clause-each g c = λ place it there.

@@ -1,8 +1,8 @@
-use Rattle.std.proofs.Common.{IfSome, Ok, Some, le_refl, rules, length, slice_get, subst, sym}
+use Rattle.std.proofs.Common.{Ok, Some, le_refl, rules, length, slice_get, subst, sym}
 use Rattle.std.proofs.Common.{vec_capacity, vec_len, ◌+◌, ◌<◌, ◌∙◌, ◌≡◌, ◌≤◌}
 use Rattle.std.proofs.lemmas.Option.{slice_get_read}
 use Rattle.urb_folder.specs.internal.JournalOutcomes.{OpensIn}
-use Rattle.urb_folder.specs.internal.OpenedPlaces.{AreOpened}
+use Rattle.urb_folder.specs.internal.OpenedPlaces.{AreOpened, IsFoundAt}
 use Rattle.urb_folder.proofs.PlacesInOrder.{before, earlier, ended, has_room, none_yet}
 use Rattle.urb_folder.proofs.PlacesInOrder.{one_more, unset}
 use Rattle.urb_folder.proofs.parallel.open_in_order.Goals as goal
@@ -25,9 +25,9 @@ open_next-requires-clause-earlier g c =
 pub open_next-requires-clause-found : goal.open_next-requires-clause-found
 open_next-requires-clause-found g c =
     let held = g.D.NodeDisk.held in
-    let same : c.take-it.result ≡ c.index-found-place.result =
-    c.take-it.ensures.value ∙ sym c.index-found-place.is in
-    let there : slice_get c.loop-place.found c.loop-place.place ≡ Some c.take-it.result =
+    let same : c.replace-it.result ≡ c.index-found-place.result =
+    c.replace-it.ensures.value ∙ sym c.index-found-place.is in
+    let there : slice_get c.loop-place.found c.loop-place.place ≡ Some c.replace-it.result =
     subst (λ it. slice_get c.loop-place.found c.loop-place.place ≡ Some it) (sym same)
     (slice_get_read c.loop-place.found (length c.args.found.now) c.loop-place.place
     c.index-found-place.result (sym c.loop-place.auto.found) c.loop-place-test.true
@@ -35,8 +35,8 @@ open_next-requires-clause-found g c =
     let place : c.loop-place.place ≡ length c.as_slice.result.now =
     sym (subst (λ them. length them ≡ c.loop-place.place) (sym c.as_slice.ensures.value)
     c.loop-place.invariant.0.whole) in
-    subst (λ n. IfSome c.take-it.result (OpensIn _ held n)) place
-    (c.loop-place.invariant.1 c.loop-place.place c.take-it.result (le_refl c.loop-place.place) there)
+    subst (λ n. IsFoundAt (OpensIn _ held) n c.replace-it.result) place
+    (c.loop-place.invariant.1 c.loop-place.place c.replace-it.result (le_refl c.loop-place.place) there)
 
 pub push_reserved-requires : goal.push_reserved-requires
 push_reserved-requires g c =
@@ -69,7 +69,7 @@ loop-place-preserved g c =
           (one_more _ c.loop-place.all.items c.in-Ok.it c.loop-place.place
           c.loop-place.invariant.0 next),
       λ at it behind there. c.loop-place.invariant.1 at it (earlier c.loop-place.place at behind)
-          (unset c.loop-place.found c.loop-place.place at c.take-it.new.self it
+          (unset c.loop-place.found c.loop-place.place at c.replace-it.new.dest it
           (before c.loop-place.place at behind) there),
       search rules,
       subst (λ n. length c.args.found.now ≤ n) (sym c.push_reserved.ensures.capacity)

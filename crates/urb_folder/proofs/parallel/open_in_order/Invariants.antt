@@ -1,6 +1,6 @@
-use Rattle.std.proofs.Common.{IfSome, Some, length, slice_get, vec_capacity, ℕ, ◌≡◌, ◌≤◌}
+use Rattle.std.proofs.Common.{Some, length, slice_get, vec_capacity, ℕ, ◌≡◌, ◌≤◌}
 use Rattle.urb_folder.specs.internal.JournalOutcomes.{OpensIn}
-use Rattle.urb_folder.specs.internal.OpenedPlaces.{AreOpened}
+use Rattle.urb_folder.specs.internal.OpenedPlaces.{AreOpened, IsFoundAt}
 use Rattle.urb_folder.proofs.parallel.open_in_order.Given as goal
 
 -- the places so far are open, what was found at the others is still there, and there is room for
@@ -10,5 +10,5 @@ invariant-loop-place g l =
     let held = g.D.NodeDisk.held in
     AreOpened (OpensIn _ held) l.place l.all.items
     × ((at : ℕ) (it : _) → l.place ≤ at → slice_get l.found at ≡ Some it
-    → IfSome it (OpensIn _ held at))
+    → IsFoundAt (OpensIn _ held) at it)
     × (length l.found ≡ length l.fn.found) × (length l.fn.found ≤ vec_capacity l.all)

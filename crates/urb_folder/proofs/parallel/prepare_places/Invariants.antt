@@ -1,6 +1,13 @@
 use Rattle.std.proofs.Common.{◌≡◌, ◌≤◌, vec_capacity, vec_len}
+use Rattle.urb_folder.specs.internal.JournalOutcomes.{OpensIn}
+use Rattle.urb_folder.specs.internal.OpenedPlaces.{AreFound, IsGiven}
 use Rattle.urb_folder.proofs.parallel.prepare_places.Given as goal
 
--- the list has a place for each turn of the loop so far, and room for all `count` places
+-- the list has the claim of its node at each place so far, and room for all `count` places
 abbrev pub invariant-loop : goal.invariant-loop
-invariant-loop g l = (vec_len l.found ≡ l.counter) × (l.fn.count ≤ vec_capacity l.found)
+invariant-loop g l = record {
+  count : vec_len l.found ≡ l.counter;
+  room : l.fn.count ≤ vec_capacity l.found;
+  each : AreFound (OpensIn g.D.Disk g.D.NodeDisk.held) l.found.items;
+  given : IsGiven l.counter l.claims;
+}

@@ -7,9 +7,10 @@ use Rattle.urb_sqlite.specs.RowReadings.{records_of}
 use Rattle.urb_sqlite.proofs.node_journals.open_nodes.Given as goal
 
 -- there is a journal for each node so far, and room for all
-abbrev pub invariant-loop-at : goal.invariant-loop-at
-invariant-loop-at g l = record {
-  count : vec_len l.journals ≡ l.at;
+abbrev pub invariant-loop : goal.invariant-loop
+invariant-loop g l = record {
+  count : vec_len l.journals ≡ l.counter;
+  given : l.claims ≡ l.counter;
   room : l.n ≤ vec_capacity l.journals;
   found : (i : ℕ) (journal : _) → slice_get l.journals.items i ≡ Some journal
       → IsFoundIn (g.D.NodeDisk.held (suc i))
