@@ -109,10 +109,11 @@ module _ {S A : Type 0} (g : Ghosts S A) (start : World) where
       → AreStoresAfter g start past from stores
   all_after from past [] each = tt
   all_after from past (store ∷ stores) each =
-      let first : from + zero ≡ from = omega arith in
-      (subst (λ (n : ℕ). IsStoreAfter g start past n store) first (each zero store refl),
-      all_after (from + 1) past stores (λ i s got.
-      subst (λ (n : ℕ). IsStoreAfter g start past n s) (omega arith) (each (suc i) s got)))
+      let first : from + zero ≡ from = omega arith in (
+        subst (λ (n : ℕ). IsStoreAfter g start past n store) first (each zero store refl),
+        all_after (from + 1) past stores (λ i s got.
+            subst (λ (n : ℕ). IsStoreAfter g start past n s) (omega arith) (each (suc i) s got)),
+      )
 
   -- one of these stores
   one_after : (from : ℕ) (past : List Event) (stores : List S)

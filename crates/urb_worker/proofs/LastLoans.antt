@@ -167,9 +167,11 @@ rests_push first [] tally past all one =
     let number : first + zero ≡ first = omega arith in
     (subst (λ (k : ℕ). RestsSince k tally.last past) number one, tt)
 rests_push first (t ∷ tallies) tally past all one =
-    let number : first + suc (length tallies) ≡ first + 1 + length tallies = omega arith in
-    (all.0, rests_push (first + 1) tallies tally past all.1
-    (subst (λ (k : ℕ). RestsSince k tally.last past) number one))
+    let number : first + suc (length tallies) ≡ first + 1 + length tallies = omega arith in (
+      all.0,
+      rests_push (first + 1) tallies tally past all.1
+          (subst (λ (k : ℕ). RestsSince k tally.last past) number one),
+    )
 
 -- ---- tallies that had no loan yet
 

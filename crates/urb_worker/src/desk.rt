@@ -16,8 +16,8 @@ ghost use Rattle.urb_worker.specs.Settlings.{told_in};
 
 use crate::desk_queue::DeskQueue;
 use crate::loans::copy_moment;
-use crate::responses::{down_response, response_to_read, response_to_turn};
 use crate::node_service::DeskService;
+use crate::responses::{down_response, response_to_read, response_to_turn};
 use crate::{Finished, Job, NodeService};
 use std::alloc::Global;
 use std::marker::Model;

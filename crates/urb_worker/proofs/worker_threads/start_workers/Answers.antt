@@ -38,8 +38,7 @@ spawn_with-requires-clause-keeps g c = λ lives within r left. rw c.of-kept.ensu
 pub invariant_of-push_reserved : goal.invariant_of-push_reserved
 invariant_of-push_reserved g c =
     let same : c.in-Err.refused.value.1 ≡ c.in-Some.input =
-    ap (λ v. v.1) c.in-Err.ensures.err in
-    (
+    ap (λ v. v.1) c.in-Err.ensures.err in (
       rw (c.of-came.ensures, ← same) c.work-store.ensures.0,
       rw (c.of-came.ensures, ← same) c.work-store.ensures.1,
     )

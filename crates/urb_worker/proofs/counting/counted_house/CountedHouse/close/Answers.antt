@@ -8,11 +8,20 @@ pub loop-tally-preserved : goal.loop-tally-preserved
 loop-tally-preserved g c = record {
   parts =
       rw (length_push c.loop-tally.yielded c.in-Some.tally)
-      (omega (arith, c.merge.ensures.parts, c.into_share.ensures.parts,
-      c.loop-tally.invariant.parts));
+      (omega (
+        arith,
+        c.merge.ensures.parts,
+        c.into_share.ensures.parts,
+        c.loop-tally.invariant.parts,
+      ));
   amount =
-      omega (arith, c.merge.ensures.amount, c.into_share.ensures.amount,
-      c.loop-tally.invariant.amount, events_push c.loop-tally.yielded c.in-Some.tally);
+      omega (
+        arith,
+        c.merge.ensures.amount,
+        c.into_share.ensures.amount,
+        c.loop-tally.invariant.amount,
+        events_push c.loop-tally.yielded c.in-Some.tally,
+      );
   place =
       rw (length_push c.loop-tally.yielded c.in-Some.tally)
       (omega (arith, c.loop-tally.invariant.place));
