@@ -19,7 +19,8 @@ use Rattle.urb_worker.proofs.TurnSteps.{whole_keeps}
 use Rattle.urb_worker.specs.Counting.{TallyView, events_in}
 use Rattle.urb_worker.specs.Desks.{events_until}
 use Rattle.urb_worker.specs.Jobs.{runs_at}
-use Rattle.urb_worker.specs.LastLoans.{AllBegin, AllRest, AllRestSince, IsNextLoan, LoanEnds}
+use Rattle.urb_worker.specs.LastLoans.{AllBegin, AllRestSince}
+use Rattle.urb_worker.specs.internal.LoanEnds.{AllRest, IsNextLoan, LoanEnds}
 use Rattle.urb_worker.specs.LastLoans.{RestsSince}
 use Rattle.urb_worker.specs.Loans.{AreLoans, IsLoan, LoanView, LoansView}
 use Rattle.urb_worker.specs.NodeStores.{HasRested, IsStoreAfter, IsStoreSince}

@@ -4,8 +4,9 @@
 -- WaitingNodes comes first: it says what other workers may do to a node meanwhile, which is to
 -- crash it. LastingStores says what each answer of a store leaves of a node and its store.
 -- StoreKeeping puts them together in the main lemmas `turn-keeps` and `turn-leaves`. TurnSteps
--- makes one turn of its parts (`whole`), and OtherNodes says that other nodes only wait
--- (`others-wait`).
+-- makes one turn of its parts (`whole`), and OtherNodes says that other nodes only rest
+-- (`others-rest`). LastLoans makes a fact of it: a worker knows when it gave the House back last,
+-- and its node has rested since then (`turn_since`). EndedRuns says what a run leaves.
 -- Then read what is told of a turn. Reported changes have happened (`reported-so`,
 -- ReportedChanges), responses are true (`works_tells`, TrueResponses), and events are counted
 -- (`ends_count`, EventCounts). NodeFeeds is about the jobs of a feed, and Pulses about what a

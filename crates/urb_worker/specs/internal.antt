@@ -1,6 +1,7 @@
 pub mod Stages
 pub mod Replies
 pub mod ServedStores
+pub mod LoanEnds
 pub mod CountedHouses
 pub mod WorkerOutputs
 pub mod Desks

@@ -4,8 +4,9 @@
 //! A turn is an event of the House, then the store's part, then an event of the House with the
 //! store's result. The House is under the lock of a `Hub`. A worker holds the lock for the two
 //! events. It never holds it while a store works, a packet is sent or an answer is given. So the
-//! stores of several nodes work at the same time. Each worker has a `Tally` of its events. Once all
-//! tallies are returned, the Hub returns a House that has counted exactly these events.
+//! stores of several nodes work at the same time. Each worker has a `Tally`: the number of its
+//! events, and when it gave the House back last. Once all tallies are returned, the Hub returns a
+//! House that has counted exactly these events.
 //!
 //! How the calls go together, in a function that is generic over the names of the House and of the
 //! Hub, `K` and `L`:
@@ -21,7 +22,7 @@
 //! timer(rt, &stop, 100, &queues);                                 // a tick at each node each 100 ms
 //! let desk = NodeDesk::new(rt, alloc, node, service, position);    // for a client's session
 //! // at the end: set the stop, wake the receivers, drop the queues, join all
-//! let house = hub.close(tallies);
+//! let (house, is_known) = hub.close(tallies);
 //! ```
 //!
 //! A `NodeService` is what the sessions of a node share: the queue of its worker, the readers that

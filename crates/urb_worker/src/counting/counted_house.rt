@@ -11,7 +11,8 @@ ghost use Rattle.urb_worker.specs.Loans.{AreLoans, IsLoan};
 ghost use Rattle.urb_worker.specs.NodeFeeds.{BeginsFeed};
 ghost use Rattle.urb_worker.specs.Stages.{is_stored};
 ghost use Rattle.urb_worker.specs.Turns.{Begins, Finishes};
-ghost use Rattle.urb_worker.specs.LastLoans.{AllRest, AllRestSince, IsNextLoan};
+ghost use Rattle.urb_worker.specs.LastLoans.{AllRestSince};
+ghost use Rattle.urb_worker.specs.internal.LoanEnds.{AllRest, IsNextLoan};
 
 use crate::counting::last_loans::LastLoans;
 use crate::counting::tally::{HubName, Tally};
@@ -38,7 +39,7 @@ pub(crate) struct CountedHouse<K: HouseName, L: HubName> {
 }
 
 impl<K: HouseName, L: HubName> Model for CountedHouse<K, L> {
-    ghost use Rattle.urb_worker.specs.LastLoans.{AllRest};
+    ghost use Rattle.urb_worker.specs.internal.LoanEnds.{AllRest};
     ghost use Rattle.urb_worker.specs.internal.CountedHouses.{CountedView};
 
     ghost Value = { CountedView };

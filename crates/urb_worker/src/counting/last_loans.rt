@@ -27,7 +27,7 @@ pub(crate) struct LastLoans<K: HouseName> {
 }
 
 impl<K: HouseName> Model for LastLoans<K> {
-    ghost use Rattle.urb_worker.specs.LastLoans.{LoanEnds};
+    ghost use Rattle.urb_worker.specs.internal.LoanEnds.{LoanEnds};
 
     ghost Value = { LoanEnds };
 

@@ -3,7 +3,7 @@ use Rattle.std.specs.Prelude.{slice_set}
 use Rattle.urb_group.specs.Step.{Event}
 use Rattle.urb_worker.proofs.LastLoans.{finishes_on}
 use Rattle.urb_worker.proofs.counting.counted_house.CountedHouse.finish.Goals as goal
-use Rattle.urb_worker.specs.LastLoans.{AllRest, LoanEnds}
+use Rattle.urb_worker.specs.internal.LoanEnds.{AllRest, LoanEnds}
 
 -- each node has rested since its worker's last loan, of which this is one
 pub invariant_of-self : goal.invariant_of-self
