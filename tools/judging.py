@@ -44,8 +44,8 @@ IN_SOURCE = re.compile(r"src/worked/wrong(\d+)_(\w+)\.rt:(\d+):\d+: .*\(`returns
 UNREAD = re.compile(r"specs/internal/Wrong(\d+)_\d+\.antt:\d+:\d+: error:? ?(.*)")
 UNSTATED = re.compile(r"^fn \w+::worked::wrong(\d+)_[\w:]+: no proof: antt did not admit")
 SECONDS = 1800  # that a check may take
-PASSES = ((0, 3), (3, 9), (9, 30))  # which examples a version is tried on, until one refuses it
-MOST_VERSIONS = 60  # tried in one check
+PASSES = ((0, 2), (2, 6), (6, 20))  # which examples a version is tried on, until one refuses it
+MOST_VERSIONS = 40  # tried in one check
 # Files of examples that take long.
 DEAR = frozenset(("recoveries", "rounds", "clients", "deliveries", "stops"))
 

@@ -17,6 +17,7 @@ pub mod packets;
 pub mod premises;
 pub mod records;
 pub mod recoveries;
+pub mod recovery_words;
 pub mod refusals;
 pub mod restarts;
 pub mod rounds;

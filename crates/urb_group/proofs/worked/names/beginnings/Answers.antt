@@ -2,7 +2,7 @@
 use Rattle.std.proofs.Common.{List, [], ap, arith, inl, inr, refl, sym, zero, ℕ}
 use Rattle.std.proofs.Common.{◌∷◌, ◌≡◌}
 use Rattle.urb_names.specs.LabelsAndContents.{Label}
-use Rattle.urb_names.specs.ListPrefixes.{Begins, OneBegins}
+use Rattle.urb_names.specs.ListPrefixes.{OneBegins}
 use Rattle.urb_names.specs.Names.{name, names}
 use Rattle.urb_group.proofs.worked.names.beginnings.Goals as goal
 

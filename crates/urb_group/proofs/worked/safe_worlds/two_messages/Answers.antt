@@ -1,5 +1,5 @@
 -- Two nodes hold different messages under one name.
-use Rattle.std.proofs.Common.{ap, arith, refl, ℕ, ◌≡◌}
+use Rattle.std.proofs.Common.{ap, arith, refl, ◌≡◌}
 use Rattle.urb_names.specs.LabelsAndContents.{Content}
 use Rattle.urb_names.specs.Names.{name}
 use Rattle.urb_group.specs.internal.Examples.{filled}
