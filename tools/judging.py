@@ -24,7 +24,7 @@ from pathlib import Path
 from tools.believed import Definition, Specs, imports_of
 from tools.functions import Head, heads_of
 from tools.tree import Tree
-from tools.weakening import Version, block_of, own_lines, split_at, with_imports
+from tools.weakening import FEW_NODES, Version, block_of, own_lines, split_at, with_imports
 from tools.weakening import without_margin
 
 CLAUSE = re.compile(r"^\s*ensures (?:(\w+) )?\{", re.MULTILINE)
@@ -35,6 +35,8 @@ IMPORT = re.compile(
     re.MULTILINE,
 )
 # Where the prover reports on a clause of a copy, and on the text of a version.
+SIZE = re.compile(r"\blimits (\d+) ")
+LONG = re.compile(r"\bfilled \d+ \d+ \d{4}")  # a payload of over 1,000 bytes
 GOAL = "returns-clause-"
 DECLARATION = re.compile(r"(?:pub |abbrev )*([^\W\d][\w-]*) :(?: |$)")
 IN_PROOF = re.compile(
@@ -105,9 +107,19 @@ def claims_more(version: Version, specs: Specs) -> bool:
 
 def may_refuse(clause: Clause, version: Version, specs: Specs) -> bool:
     """Whether the failure of a clause shows that the version is wrong."""
+    if "four nodes" in version.what and is_small(clause.text):
+        return False
+    if "long payloads" in version.what and not LONG.search(clause.text):
+        return False
     if claims_less(version, specs):
         return version.definition in closure(specs, clause.supposed)
     return not (claims_more(version, specs) and clause.is_denial)
+
+
+def is_small(text: str) -> bool:
+    """Whether a clause speaks only of groups of so few nodes that a version changes nothing."""
+    sizes = [int(it) for it in SIZE.findall(text)]
+    return bool(sizes) and max(sizes) <= FEW_NODES
 
 
 def is_binder(text: str) -> bool:
@@ -170,12 +182,21 @@ class Trial:
     examples: list[Example]
     counting: set[tuple[str, str, str]]  # the clauses that may refuse it: file, function, name
     failed: list[tuple[str, str, str]] = field(default_factory=list)
+    searched: set[tuple[str, str, str]] = field(default_factory=set)  # that tactics have to prove
     unread: str = ""
 
     def refusers(self) -> list[str]:
-        """The clauses that refuse the version."""
+        """The clauses that refuse the version, those first that tactics have to prove.
+
+        Another clause has a proof by hand. It may fail only because it names a part of the
+        definition, so a reader has to look whether the clause is false.
+        """
         found = [it for it in dict.fromkeys(self.failed) if it in self.counting]
-        return [f"`{stem}::{function}` {name}".rstrip() for stem, function, name in found]
+        found.sort(key=lambda it: it not in self.searched)
+        return [
+            f"`{it[0]}::{it[1]}` {it[2]}".rstrip() + ("" if it in self.searched else " *")
+            for it in found
+        ]
 
 
 class Room:
@@ -225,14 +246,16 @@ class Room:
             copied = self.copied([example], version.definition)
             if names and not any(self.specs.text[it][0].isspace() for it in copied):
                 is_dear = example.path.stem in DEAR
-                found.append((is_dear, len(copied), len(example.head.text), example, names))
-        chosen = sorted(found, key=lambda it: it[:3])[first:end]
+                by_hand = bool(self.proof_of(example))
+                cost = (is_dear, len(copied), by_hand, len(example.head.text))
+                found.append((cost, example, names))
+        chosen = sorted(found, key=lambda it: it[0])[first:end]
         counting = {
             (example.path.stem, example.head.name, name)
-            for *_, example, names in chosen
+            for _, example, names in chosen
             for name in names
         }
-        return Trial(version, number, [it[3] for it in chosen], counting)
+        return Trial(version, number, [it[1] for it in chosen], counting)
 
     def clear(self) -> None:
         """Removes what was written for earlier trials."""
@@ -388,6 +411,7 @@ def note(folder: Path, trials: Sequence[Trial], said: str) -> None:
             source = (folder / f"src/worked/wrong{number}_{stem}.rt").read_text()
             heads = [it.name for it in heads_of(source) if it.first <= int(at)]
             by_number[int(number)].failed.append((stem, heads[-1], name))
+            by_number[int(number)].searched.add((stem, heads[-1], name))
 
 
 @dataclass(frozen=True)

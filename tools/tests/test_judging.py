@@ -100,6 +100,11 @@ class Clauses(JudgingTest):
         found = [it.name for it in self.example.clauses if self.may_refuse(it, weaker)]
         self.assertEqual(found, ["of_none", "of_the_better"])
 
+    def test_a_clause_on_small_groups_says_nothing_of_larger_ones(self) -> None:
+        self.assertTrue(judging.is_small("Safe (opened (limits 3 10) images) → ⊥"))
+        self.assertFalse(judging.is_small("Safe (opened (limits 4 10) images) → ⊥"))
+        self.assertFalse(judging.is_small("(size : Limits) → Safe (started size)"))
+
     def test_another_test_is_refused_by_any_clause_about_it(self) -> None:
         self.assertTrue(self.may_refuse(self.clause("both_are_set"), self.version("both", "unit")))
 
@@ -150,7 +155,7 @@ class Reports(JudgingTest):
         place = "proofs/worked/wrong7_runs/what_is_so/Answers.antt:9:1: error"
         self.assertEqual(self.note(f"./{place}: `helper`: no").refusers(), [])
         trial = self.note(f"./{place}: `returns-clause-of_none`: no")
-        self.assertEqual(trial.refusers(), ["`runs::what_is_so` of_none"])
+        self.assertEqual(trial.refusers(), ["`runs::what_is_so` of_none *"])
 
     def test_a_clause_that_no_tactic_proved(self) -> None:
         line = "note: src/worked/wrong7_runs.rt:8:1: it is not proved (`returns-clause-of_none`)"

@@ -16,6 +16,7 @@ ghost use Rattle.urb_group.specs.Rounds.{Adds, AllUp, AreUp, Arrives, Breaks, Is
 ghost use Rattle.urb_group.specs.Rounds.{IsHeldAmong, IsRoundAmong, IsUnbroken, IsUndisturbed};
 ghost use Rattle.urb_group.specs.Rounds.{NoneDue, ReadyHaveDelivered, TickAtLeast, Ticks};
 ghost use Rattle.urb_group.specs.Rounds.{TicksArrive, act_of, arrival_by, disturbance, tick_by};
+ghost use Rattle.urb_group.specs.Rounds.{HasDeliveredStored, HaveDeliveredHeld, TicksAreSilent};
 ghost use Rattle.urb_group.specs.Rounds.{ticks_of};
 ghost use Rattle.urb_group.specs.Step.{Arrive, Commit, Crash, Fail, Restart, Submit, Tick};
 ghost use Rattle.urb_group.specs.World.{image_of, opened, started};
@@ -172,4 +173,38 @@ pub fn what_was_delivered()
         (opened (limits 7 10) (image_of ((certified 1 1 ∷ []) ∷ []))) → ⊥ }
     ensures once_is_not_twice { TickAtLeast 2 (started (limits 7 10))
         (map (λ p. Ticks p []) (nodes 7)) → ⊥ }
+{}
+
+/// What only nodes, only ready nodes and only held names have to do. Here node 8 of seven, nodes
+/// that are down, and names that nobody holds do nothing.
+pub fn what_is_not_asked()
+    ensures of_other_senders { HasDeliveredStored
+        (record (started (limits 7 10)) {
+          node = λ p. if is_node 7 p then node_in Ready [] else
+              record (node_in Ready []) { broadcast = message 7 1 "" ∷ [] };
+        }) (started (limits 7 10)) 1 }
+    ensures of_nodes_that_are_down { ReadyHaveDelivered
+        (opened (limits 7 10) (image_of ((pending 1 1 ∷ []) ∷ [])))
+        (record (started (limits 7 10)) { node = λ p. node_in (Down None) [] }) }
+    ensures of_other_nodes { ReadyHaveDelivered
+        (opened (limits 7 10) (image_of ((pending 1 1 ∷ []) ∷ [])))
+        (record (started (limits 7 10)) {
+          node = λ p. if is_node 7 p then node_in (Down None) [] else
+              node_in Ready [];
+        }) }
+    ensures of_other_nodes_names { NoneDue (record (started (limits 7 10))
+        { node = λ p. if is_node 7 p then node_in Ready [] else node_in Ready (pending 1 1 ∷ []) }) }
+    ensures of_other_nodes_ticks { TickAtLeast 1 (started (limits 1 10)) (Ticks 1 [] ∷ []) }
+    ensures no_ticks { TickAtLeast 0 (started (limits 7 10)) [] }
+    ensures of_names_that_nobody_holds { (size : Limits) →
+        HaveDeliveredHeld (is_node size.n) (started size) (started size) }
+{}
+
+/// What some nodes have to do: deliver what they held, and send nothing at any tick.
+pub fn what_is_asked()
+    ensures of_seven { HaveDeliveredHeld (is_node 7)
+        (opened (limits 7 10) (image_of ((pending 1 1 ∷ []) ∷ [])))
+        (opened (limits 7 10) (image_of ((pending 1 1 ∷ []) ∷ []))) → ⊥ }
+    ensures of_the_second_tick { TicksAreSilent
+        (Ticks 1 [] ∷ Ticks 1 (flagged 0 1 2 1 1 (message 7 1 "") ∷ []) ∷ []) → ⊥ }
 {}
