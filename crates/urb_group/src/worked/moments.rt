@@ -34,6 +34,9 @@ pub fn what_goes_on()
     ensures a_broadcast_is_lost { GoesOn
         (world_of (record (node_in Ready []) { broadcast = message 7 1 "" ∷ [] }))
         (world_of (node_in Ready [])) → ⊥ }
+    ensures records_in_another_order { GoesOn
+        (world_of (node_in Ready (pending 1 1 ∷ pending 2 1 ∷ [])))
+        (world_of (node_in Ready (pending 2 1 ∷ pending 1 1 ∷ []))) → ⊥ }
     ensures a_record_is_lost { GoesOn (world_of (node_in Ready (pending 1 1 ∷ [])))
         (world_of (node_in Ready [])) → ⊥ }
     ensures a_record_of_four_is_lost { GoesOn

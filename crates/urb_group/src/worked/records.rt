@@ -8,7 +8,8 @@ ghost use Rattle.urb_stable.specs.DeliveredLogs.{entries, entries_of, log};
 ghost use Rattle.urb_stable.specs.Entries.{name_of};
 ghost use Rattle.urb_stable.specs.Fitting.{KeepsOwn, held_by_majority, in_range, is_in_turn};
 ghost use Rattle.urb_stable.specs.Fitting.{is_new_to, is_next_own, keeps_a, keeps_b, keeps_c};
-ghost use Rattle.urb_stable.specs.Fitting.{keeps_d};
+ghost use Rattle.urb_stable.specs.Fitting.{broken, keeps, keeps_d};
+ghost use Rattle.urb_names.specs.declared.refusal.Rule.TheVariants.{A, B, C, D};
 ghost use Rattle.urb_stable.specs.Records.{cert, pend};
 ghost use Rattle.urb_stable.specs.declared.record.Record.TheVariants.{Cert, Pend, PendCert};
 ghost use Rattle.urb_group.specs.World.{image_of};
@@ -156,4 +157,21 @@ pub fn images_by_themselves()
     ensures out_of_turn { KeepsOwn (limits 7 10) 1 [] (pending 1 1 ∷ pending 1 3 ∷ []) → ⊥ }
     ensures out_of_range { KeepsOwn (limits 4 10) 1 [] (pending 5 1 ∷ []) → ⊥ }
     ensures first_out_of_turn { KeepsOwn (limits 4 10) 1 [] (pending 1 2 ∷ []) → ⊥ }
+{}
+
+/// Each rule in a group of seven, and a record that breaks two of them.
+pub fn rules_of_seven()
+    ensures a { keeps (limits 7 10) (image_of []) 1 [] (pending 7 1) A ≡ true }
+    ensures no_a { keeps (limits 7 10) (image_of []) 1 [] (pending 8 1) A ≡ false }
+    ensures b { keeps (limits 7 10) (image_of []) 1 [] (pending 1 1) B ≡ true }
+    ensures no_b { keeps (limits 7 10) (image_of []) 1 [] (pending 1 2) B ≡ false }
+    ensures c { keeps (limits 7 10) (image_of ((pending 1 1 ∷ []) ∷ [])) 2 [] (pending 1 1) C
+        ≡ true }
+    ensures no_c { keeps (limits 7 10) (image_of []) 2 [] (pending 1 1) C ≡ false }
+    ensures d { keeps (limits 4 10) (image_of (held_by_three [])) 1 [] (certified 1 1) D ≡ true }
+    ensures no_d { keeps (limits 7 10) (image_of (held_by_three [])) 1 [] (certified 1 1) D
+        ≡ false }
+    ensures two_at_once { broken (limits 7 10) (image_of []) 1 [] (certified 1 2)
+        ≡ record { rule = B; node = 1; name = name 1 2 }
+        ∷ record { rule = D; node = 1; name = name 1 2 } ∷ [] }
 {}

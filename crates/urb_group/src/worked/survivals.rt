@@ -33,6 +33,10 @@ pub fn what_does_not_go_on()
         (opened (limits 4 10) (image_of ((certified 1 1 ∷ []) ∷ []))) (image_of []) → ⊥ }
     ensures another_message { GoesOnIn (opened (limits 7 10) (image_of ((certified 1 1 ∷ []) ∷ [])))
         (image_of ((PendCert (name 1 1) (message 7 1 "a") ∷ []) ∷ [])) → ⊥ }
+    ensures another_message_of_another { GoesOnIn
+        (opened (limits 2 10) (image_of ([] ∷ (certified 1 1 ∷ []) ∷ [])))
+        (image_of ((PendCert (name 1 1) (message 7 1 "a") ∷ [])
+        ∷ (PendCert (name 1 1) (message 7 1 "a") ∷ []) ∷ [])) → ⊥ }
     ensures no_accepted_message { GoesOnUnder (limits 4 10)
         (opened (limits 4 10) (image_of ((pending 1 1 ∷ []) ∷ []))) (image_of []) → ⊥ }
     ensures no_accepted_message_of_seven { GoesOnUnder (limits 7 10)

@@ -1,8 +1,9 @@
 -- What goes on in new groups, and what is lost in others.
-use Rattle.std.proofs.Common.{List, None, Option, Some, [], ap, inl, refl, ℕ}
+use Rattle.std.proofs.Common.{List, None, Option, Some, [], ap, arith, inl, refl, ℕ}
 use Rattle.std.proofs.Common.{⊎_elim, ◌∷◌, ◌≡◌}
 use Rattle.urb_names.specs.LabelsAndContents.{Content, Label}
 use Rattle.urb_names.specs.Names.{name}
+use Rattle.urb_stable.specs.Entries.{Entry, name_of}
 use Rattle.urb_group.specs.internal.Examples.{certified, pending}
 use Rattle.urb_group.specs.internal.Scripts.{message}
 use Rattle.urb_group.proofs.worked.moments.what_goes_on.Goals as goal
@@ -18,6 +19,18 @@ abbrev entry_payload : List (Label × Option Content) → List ℕ
 entry_payload ((x, Some m) ∷ entries) = m.payload
 entry_payload ((x, None) ∷ entries) = []
 entry_payload [] = []
+
+-- the sender of the first record's name
+abbrev first_sender : List Entry → ℕ
+first_sender (r ∷ rs) = (name_of r).sender
+first_sender [] = 0
+
+differ : (m n : ℕ) → m ≡ n → m ≡ 1 → n ≡ 2 → ⊥
+differ m n e one two = omega (arith, e, one, two)
+
+pub returns-clause-records_in_another_order : goal.returns-clause-records_in_another_order
+returns-clause-records_in_another_order c on =
+    differ _ _ (ap first_sender (on.records 1).1) refl refl
 
 pub returns-clause-new_groups : goal.returns-clause-new_groups
 returns-clause-new_groups c size = record {

@@ -1,5 +1,6 @@
 -- What a stop must not leave.
-use Rattle.std.proofs.Common.{List, [], refl, ◌∷◌, ◌≡◌}
+use Rattle.std.proofs.Common.{List, None, Option, Some, [], ap, refl, ◌∷◌, ◌≡◌, ℕ}
+use Rattle.urb_names.specs.LabelsAndContents.{Content, Label}
 use Rattle.urb_names.specs.Names.{name}
 use Rattle.urb_node.specs.Replies.{Drafted, Same}
 use Rattle.urb_node.specs.declared.answer.Answer.TheVariants.{Accepted}
@@ -34,6 +35,16 @@ drafts_in_seven e = let drafted : Drafted (name 1 1) 1 ≡ Same (Accepted (name 
 pub returns-clause-no_log_of_four : goal.returns-clause-no_log_of_four
 returns-clause-no_log_of_four c on =
     let begins = on.delivered 1 in some-none (name 1 1) begins.0 begins.1
+
+-- the payload of the first entry
+abbrev payload : List (Label × Option Content) → List ℕ
+payload ((x, Some m) ∷ entries) = m.payload
+payload ((x, None) ∷ entries) = []
+payload [] = []
+
+pub returns-clause-another_message_of_another : goal.returns-clause-another_message_of_another
+returns-clause-another_message_of_another c on =
+    none-some 97 [] (ap payload (on.entries 2).1)
 
 pub returns-clause-no_accepted_message : goal.returns-clause-no_accepted_message
 returns-clause-no_accepted_message c on =
