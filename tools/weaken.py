@@ -2,7 +2,9 @@
 
     python3 -m tools weaken NAME..          lists the wrong versions of these definitions
     python3 -m tools weaken --under NAME..  of all that these definitions and functions rest on
-    .. --try [--least N] [--most M]         tries version N to M on a copy, and prints a table
+    .. --examples CRATE                     tries them on the worked examples of this crate alone
+    .. --try                                tries them on whole crates
+    .. --least N --most M                   only version N to M
 
 A word of specs/ on which a promise rests needs an example that makes it false, if it stands in a
 conclusion, or true, if it stands in a premise. A wrong version that nothing refuses shows a word
@@ -10,8 +12,10 @@ without such an example. A version counts as refused if a worked example, a law,
 a public function isn't proved over it. A private proof that names a field doesn't count: its author
 would have written another proof.
 
-Trying a version takes a check of the definition's crate, and of the crates above it until one
-refuses it. `--prefix WORDS` puts words before each check (a command that waits its turn, say).
+All are tried on a copy, and a table comes out. The worked examples take a second or two for each
+version (tools/judging.py says how), once the crates below have been built. Whole crates take many
+minutes: the definition's crate is checked, and then the crates above it until one refuses the
+version. `--prefix WORDS` puts words before each check (a command that waits its turn, say).
 """
 from __future__ import annotations
 
@@ -25,6 +29,7 @@ from collections.abc import Iterator, Sequence
 from dataclasses import dataclass
 from pathlib import Path
 
+from tools import judging
 from tools.believed import Definition, Specs, under_names
 from tools.functions import heads_of
 from tools.tree import Tree
@@ -187,6 +192,23 @@ def try_all(tree: Tree, versions: Sequence[Version], first: int, prefix: Sequenc
     return 1 if through else 0
 
 
+def try_examples(
+    tree: Tree, crate: str, versions: Sequence[Version], first: int, prefix: Sequence[str]
+) -> int:
+    """Tries these versions on the worked examples of a crate. Prints a row for each."""
+    print("| number | definition | wrong in | verdict | by |\n|---|---|---|---|---|", flush=True)
+    refused = 0
+    with tempfile.TemporaryDirectory(prefix="urbd-weaken-") as folder:
+        room = judging.Room(tree, crate, Path(folder))
+        for verdict in judging.try_versions(room, list(enumerate(versions, first)), prefix):
+            refused += verdict.word == "refused"
+            version = verdict.version
+            row = (str(verdict.number), f"`{version.definition.name}`", version.what)
+            print(f"| {' | '.join((*row, verdict.word, verdict.by))} |", flush=True)
+    print(f"{len(versions)} versions: {refused} refused, {len(versions) - refused} not")
+    return 0 if refused == len(versions) else 1
+
+
 def main(words: Sequence[str], tree: Tree = Tree()) -> int:
     parser = argparse.ArgumentParser(
         prog="python3 -m tools weaken",
@@ -196,6 +218,7 @@ def main(words: Sequence[str], tree: Tree = Tree()) -> int:
     parser.add_argument("names", nargs="+", metavar="NAME", help="a definition, or a function")
     parser.add_argument("--under", action="store_true", help="all that the names rest on")
     parser.add_argument("--try", dest="is_tried", action="store_true", help="try the versions")
+    parser.add_argument("--examples", metavar="CRATE", help="try them on its examples alone")
     parser.add_argument("--least", type=int, default=1, help="the first version that is tried")
     parser.add_argument("--most", type=int, default=10**6, help="the last version that is tried")
     parser.add_argument("--prefix", default="", metavar="WORDS", help="words before each check")
@@ -204,9 +227,11 @@ def main(words: Sequence[str], tree: Tree = Tree()) -> int:
     found = [it for it in specs.text if it.name in options.names]
     definitions = sorted(under_names(specs, options.names) if options.under else found)
     versions = versions_of(specs, definitions)
+    chosen, prefix = versions[options.least - 1 : options.most], shlex.split(options.prefix)
+    if options.examples:
+        return try_examples(tree, options.examples, chosen, options.least, prefix)
     if options.is_tried:
-        chosen = versions[options.least - 1 : options.most]
-        return try_all(tree, chosen, options.least, shlex.split(options.prefix))
+        return try_all(tree, chosen, options.least, prefix)
     for number, version in enumerate(versions, 1):
         print(f"{number:4} {version.rule:9} {version.name}")
     print(f"{len(versions)} wrong versions of {len(definitions)} definitions")

@@ -22,6 +22,7 @@ from dataclasses import dataclass, replace
 from tools.believed import Definition, Specs
 
 FEW_NODES = 3
+ALWAYS, NEVER = "Unit {0}", "⊥"  # a claim of nothing, and one that is false
 SHORT_PAYLOAD = 1000
 
 RELATION = re.compile(r"≡|≢|≤|(?<![-<])<(?!-)|∈|IsTrue|⊎")
@@ -261,9 +262,11 @@ class Rules:
                 if size.partition(".")[0] in NAME.findall(case.left):
                     false = f"({limit}) × ({case.right})"
                     nothing = f"{limit} → ({case.right})"
-                    yield "few", "false of four nodes", with_case(block, at, false), ("◌≤◌",)
                     told = "says nothing of four nodes"
-                    yield "few", told, with_case(block, at, nothing), ("◌≤◌",)
+                    if case.right != NEVER:
+                        yield "few", "false of four nodes", with_case(block, at, false), ("◌≤◌",)
+                    if case.right != ALWAYS:
+                        yield "few", told, with_case(block, at, nothing), ("◌≤◌",)
         yield from self.few_of_a_test(block)
         yield from self.short_payloads(block)
 

@@ -35,6 +35,11 @@ WORLD = """
     abbrev pub IsKnown : World → ℕ → Type 0
     IsKnown w p = (w.size ≡ w.size) × (p ≡ p)
 
+    -- nothing, and never
+    abbrev pub IsOpen : World → Option ℕ → Type 0
+    IsOpen w None = Unit {0}
+    IsOpen w (Some p) = ⊥
+
     -- all contents are the same
     abbrev pub AreSame : ℕ → Type 0
     AreSame p = (m o : Content) → m ≡ o
@@ -101,6 +106,11 @@ class Making(WeakeningTest):
         rights = [it.rpartition(" p = ")[2] for it in self.texts("IsKnown", "few")]
         body = "((w.size ≡ w.size) × (p ≡ p))"
         self.assertEqual(rights, [f"(w.size.n ≤ 3) × {body}", f"w.size.n ≤ 3 → {body}"])
+
+    def test_a_claim_of_nothing_and_a_false_one_have_one_version_each(self) -> None:
+        false, nothing = self.texts("IsOpen", "few")
+        self.assertIn("IsOpen w None = (w.size.n ≤ 3) × (Unit {0})", false)
+        self.assertIn("IsOpen w (Some p) = w.size.n ≤ 3 → (⊥)", nothing)
 
     def test_long_payloads(self) -> None:
         (text,) = self.texts("AreSame", "few")

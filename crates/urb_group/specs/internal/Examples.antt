@@ -11,7 +11,8 @@ use Rattle.urb_names.specs.Names.{name}
 use Rattle.urb_names.specs.LabelsAndContents.{Content, Label, Limits}
 use Rattle.urb_names.specs.Nodes.{numbers_from}
 use Rattle.urb_names.specs.declared.refusal.Rule.{Rule}
-use Rattle.urb_node.specs.Part.{Node, State}
+use Rattle.urb_node.specs.NodeViews.{NodeView}
+use Rattle.urb_node.specs.Part.{Node, Ready, State}
 use Rattle.urb_stable.specs.Entries.{Entry}
 use Rattle.urb_stable.specs.Fitting.{first_misfit}
 use Rattle.urb_stable.specs.MemoryStores.{Memory}
@@ -57,6 +58,30 @@ node_in state records = record
 -- a world all of whose nodes are this one
 abbrev pub world_of : Node → World
 world_of node = record (started (limits 1 10)) { node = λ p. node }
+
+-- a node 1 with a certified message and a pending one, and what it has counted and heard
+abbrev pub seen_node : Node
+seen_node = record {
+  records = certified 1 1 ∷ pending 1 2 ∷ [];
+  state = Ready;
+  acks = (name 1 1, 1) ∷ (name 1 2, 1) ∷ [];
+  heard = (name 1 1, 2) ∷ [];
+  cursor = Some (name 1 1);
+  broadcast = message 7 1 "" ∷ message 7 2 "" ∷ [];
+}
+
+-- what this node holds in memory
+abbrev pub seen_view : NodeView
+seen_view = record {
+  pairs = (name 1 1, message 7 1 "") ∷ (name 1 2, message 7 2 "") ∷ [];
+  certified = name 1 1 ∷ [];
+  log = name 1 1 ∷ [];
+  count = 2;
+  state = Ready;
+  acks = (name 1 2, 1) ∷ [];
+  heard = (name 1 1, 2) ∷ [];
+  cursor = Some (name 1 1);
+}
 
 -- the ghost values of a store in memory, if a failure shut it
 abbrev pub shut_by_failures : Ghosts Memory (Unit {0})

@@ -5,9 +5,10 @@ ghost use Rattle.urb_names.specs.declared.refusal.Rule.TheVariants.{A, B, C, D};
 ghost use Rattle.urb_stable.specs.DeliveredLogs.{log};
 ghost use Rattle.urb_stable.specs.declared.record.Record.TheVariants.{Pend, PendCert, Cert};
 ghost use Rattle.urb_node.specs.Part.{Ready};
-ghost use Rattle.urb_group.specs.World.{opened, image_of};
+ghost use Rattle.urb_group.specs.World.{image_of, opened, stored};
 ghost use Rattle.urb_group.specs.internal.Scripts.{message};
 ghost use Rattle.urb_group.specs.internal.Examples.{pending, certified, limits, Judged, misfit};
+ghost use Rattle.urb_group.specs.internal.Examples.{two_of_one};
 
 /// Images that fit together.
 pub fn fitting_images()
@@ -107,6 +108,8 @@ pub fn misfits_between_nodes()
 
 /// The group that images open.
 pub fn opened_groups()
+    ensures its_records { stored (opened (limits 2 10) (image_of ([] ∷ two_of_one ∷ []))) 2
+        ≡ two_of_one }
     ensures own_messages_in_order { (opened (limits 1 10)
         (image_of ((certified 1 1 ∷ certified 1 2 ∷ []) ∷ []))).node 1
         ≡ record {

@@ -1,7 +1,9 @@
 //! The log of small lists of records.
-ghost use Rattle.std.specs.Prelude.{◌≡◌, [], ◌∷◌, Some};
-ghost use Rattle.urb_names.specs.Names.{name};
+ghost use Rattle.std.specs.Prelude.{◌≡◌, ◌≢◌, [], ◌∷◌, AllPairs, List, Some, length, ℕ};
+ghost use Rattle.urb_names.specs.Names.{name, names};
+ghost use Rattle.urb_names.specs.Release.{part_of};
 ghost use Rattle.urb_stable.specs.DeliveredLogs.{log, entries};
+ghost use Rattle.urb_stable.specs.Entries.{Entry};
 ghost use Rattle.urb_stable.specs.declared.record.Record.TheVariants.{Pend, PendCert, Cert};
 ghost use Rattle.urb_group.specs.internal.Scripts.{message};
 ghost use Rattle.urb_group.specs.internal.Examples.{pending, certified};
@@ -25,4 +27,13 @@ pub fn logs()
         (PendCert (name 1 2) (message 7 1 "b") ∷ Pend (name 2 1) (message 8 1 "c") ∷ PendCert
         (name 1 1) (message 9 1 "a") ∷ [])
         ≡ (name 1 1, Some (message 9 1 "a")) ∷ (name 1 2, Some (message 7 1 "b")) ∷ [] }
+{}
+
+/// The log of any records has each sender's names 1, 2, 3, .. in order, and no name twice. So two
+/// fields of what makes a world safe hold of every world: `numbers` of `IsInOrder`, and `no_twice`
+/// of `Safe`.
+pub fn what_every_log_is()
+    ensures numbers { (records : List Entry) (s : ℕ) →
+        part_of s (log records) ≡ names s (length (part_of s (log records))) }
+    ensures no_twice { (records : List Entry) → AllPairs (λ x y. x ≢ y) (log records) }
 {}

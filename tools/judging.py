@@ -1,0 +1,463 @@
+"""Tries wrong versions of definitions on worked examples: many versions in one check.
+
+Each version becomes a module of its own beside the right definition, which stays. What rests on
+the definition is copied beside it as far as an example needs it, and so is the example. The copies
+use the version in the definition's place. So one check of the copies tries all versions, and
+nothing below has to be proved anew.
+
+A clause of an example counts as refusing a version only if another proof wouldn't help:
+
+- A clause doesn't count if its proof cites a lemma that may speak of the definition.
+- A version that claims less is refused by a clause that denies the claim, or concludes from it.
+- A version that claims more is refused by a clause that doesn't deny the claim.
+- A version of a test, a list or a value is refused by any clause that can't be proved of it.
+"""
+from __future__ import annotations
+
+import re
+import shutil
+import subprocess
+from collections.abc import Iterable, Iterator, Sequence
+from dataclasses import dataclass, field
+from pathlib import Path
+
+from tools.believed import Definition, Specs, imports_of
+from tools.functions import Head, heads_of
+from tools.tree import Tree
+from tools.weakening import FEW_NODES, Version, block_of, own_lines, split_at, with_imports
+from tools.weakening import without_margin
+
+CLAUSE = re.compile(r"^\s*ensures (?:(\w+) )?\{", re.MULTILINE)
+USES = re.compile(r"^(?:pub )?use [^{\n]*(?:\{[^}]*\})?[^\n]*\n", re.MULTILINE)
+LEMMA = re.compile(r"^use Rattle\.(urb_\w+)\.proofs\.([\w.]+)\.\{([^}]*)\}", re.MULTILINE)
+IMPORT = re.compile(
+    r"^((?:ghost )?)use Rattle\.(\w+)\.specs\.((?:internal\.)?\w+)\.\{([^}]*)\}(;?)\n",
+    re.MULTILINE,
+)
+# Where the prover reports on a clause of a copy, and on the text of a version.
+SIZE = re.compile(r"\blimits (\d+) ")
+LONG = re.compile(r"\bfilled \d+ \d+ \d{4}")  # a payload of over 1,000 bytes
+GOAL = "returns-clause-"
+DECLARATION = re.compile(r"(?:pub |abbrev )*([^\W\d][\w-]*) :(?: |$)")
+IN_PROOF = re.compile(
+    r"^(?:\./)?proofs/worked/wrong(\d+)_(\w+)/(\w+)/Answers\.antt:\d+:\d+: error: `([^`]+)`"
+)
+IN_SOURCE = re.compile(r"src/worked/wrong(\d+)_(\w+)\.rt:(\d+):\d+: .*\(`returns-clause-(\w+)`\)")
+UNREAD = re.compile(r"specs/internal/Wrong(\d+)_\d+\.antt:\d+:\d+: error:? ?(.*)")
+UNSTATED = re.compile(r"^fn \w+::worked::wrong(\d+)_[\w:]+: no proof: antt did not admit")
+SECONDS = 1800  # that a check may take
+PASSES = ((0, 2), (2, 6), (6, 20))  # which examples a version is tried on, until one refuses it
+MOST_VERSIONS = 40  # tried in one check
+# Files of examples that take long.
+DEAR = frozenset(("recoveries", "rounds", "clients", "deliveries", "stops"))
+
+
+@dataclass(frozen=True)
+class Clause:
+    """A clause of a worked example: its name, its text, and the words that it cites."""
+
+    name: str
+    text: str
+    cited: frozenset[Definition]
+    supposed: frozenset[Definition]  # those that its premises cite
+
+    @property
+    def is_denial(self) -> bool:
+        return self.text.endswith("⊥")
+
+
+@dataclass(frozen=True)
+class Example:
+    """A worked example: its file, its head with the lines above it, and its clauses."""
+
+    path: Path
+    head: Head
+    clauses: tuple[Clause, ...]
+
+    @property
+    def answers(self) -> str:
+        return f"proofs/worked/{self.path.stem}/{self.head.name}/Answers.antt"
+
+
+def closure(specs: Specs, found: Iterable[Definition]) -> set[Definition]:
+    """These definitions, and all that they rest on."""
+    waiting, closed = list(found), set[Definition]()
+    while waiting:
+        definition = waiting.pop()
+        if definition not in closed:
+            closed.add(definition)
+            waiting += specs.cited[definition]
+    return closed
+
+
+def is_claim(version: Version, specs: Specs) -> bool:
+    block = block_of(without_margin(own_lines(specs.text[version.definition]))[0])
+    return block is not None and (block.is_claim or bool(block.fields))
+
+
+def claims_less(version: Version, specs: Specs) -> bool:
+    says_less = version.rule == "unit" or "says nothing" in version.what
+    return says_less and is_claim(version, specs)
+
+
+def claims_more(version: Version, specs: Specs) -> bool:
+    asks_more = version.rule == "premise" or "false of" in version.what
+    return asks_more and is_claim(version, specs)
+
+
+def may_refuse(clause: Clause, version: Version, specs: Specs) -> bool:
+    """Whether the failure of a clause shows that the version is wrong."""
+    if "four nodes" in version.what and is_small(clause.text):
+        return False
+    if "long payloads" in version.what and not LONG.search(clause.text):
+        return False
+    if claims_less(version, specs):
+        return version.definition in closure(specs, clause.supposed)
+    return not (claims_more(version, specs) and clause.is_denial)
+
+
+def is_small(text: str) -> bool:
+    """Whether a clause speaks only of groups of so few nodes that a version changes nothing."""
+    sizes = [int(it) for it in SIZE.findall(text)]
+    return bool(sizes) and max(sizes) <= FEW_NODES
+
+
+def is_binder(text: str) -> bool:
+    """Whether a part of a clause only names what the clause speaks of."""
+    return bool(re.fullmatch(r"\s*(?:\([^():]+ : [^()]+\)\s*)+", text))
+
+
+def examples_of(specs: Specs, crate: str) -> Iterator[Example]:
+    """The worked examples of a crate."""
+    for path in specs.tree.files(f"crates/{crate}/src/worked/*.rt"):
+        text = path.read_text()
+        imports = imports_of(text)
+        for head in heads_of(text):
+            if head.is_public:
+                whole = head.text
+                marks = list(CLAUSE.finditer(whole))
+                ends = [it.start() for it in marks[1:]] + [len(whole)]
+                clauses = []
+                for mark, end in zip(marks, ends):
+                    own = re.sub(r"\s*\}\s*(?:\{\s*\}?)?\s*$", "", whole[mark.end() : end])
+                    cited = frozenset(specs.cited_by(own, imports))
+                    premises = [it for it in split_at(own, "→")[:-1] if not is_binder(it)]
+                    supposed = frozenset(specs.cited_by(" ".join(premises), imports))
+                    clauses.append(Clause(mark.group(1) or "", own, cited, supposed))
+                yield Example(path, head, tuple(clauses))
+
+
+def foreign_lemmas(proof: str, definition: Definition, crate: str) -> set[str]:
+    """The lemmas that a proof imports, and that may speak of a definition of this crate."""
+    found: set[str] = set()
+    for owner, module, names in LEMMA.findall(proof):
+        is_below = owner != crate and definition.crate == crate
+        if not module.startswith("worked.") and not is_below:
+            found.update(name.strip() for name in names.split(","))
+    return found
+
+
+def redirected(text: str, moved: dict[tuple[str, str, str], str]) -> str:
+    """A text that imports each of these names (by crate, module and name) from another module."""
+
+    def split(found: re.Match[str]) -> str:
+        begin, crate, module, names, end = found.groups()
+        lines: dict[str, list[str]] = {}
+        for name in filter(None, (it.strip() for it in names.split(","))):
+            own = f"Rattle.{crate}.specs.{module}"
+            lines.setdefault(moved.get((crate, module, name), own), []).append(name)
+        return "".join(
+            f"{begin}use {place}.{{{', '.join(found)}}}{end}\n" for place, found in lines.items()
+        )
+
+    return IMPORT.sub(split, text)
+
+
+@dataclass
+class Trial:
+    """A version on trial: its examples, the clauses that failed, and why it can't be read."""
+
+    version: Version
+    number: int
+    examples: list[Example]
+    counting: set[tuple[str, str, str]]  # the clauses that may refuse it: file, function, name
+    failed: list[tuple[str, str, str]] = field(default_factory=list)
+    searched: set[tuple[str, str, str]] = field(default_factory=set)  # that tactics have to prove
+    unread: str = ""
+
+    def refusers(self) -> list[str]:
+        """The clauses that refuse the version, those first that tactics have to prove.
+
+        Another clause has a proof by hand. It may fail only because it names a part of the
+        definition, so a reader has to look whether the clause is false.
+        """
+        found = [it for it in dict.fromkeys(self.failed) if it in self.counting]
+        found.sort(key=lambda it: it not in self.searched)
+        return [
+            f"`{it[0]}::{it[1]}` {it[2]}".rstrip() + ("" if it in self.searched else " *")
+            for it in found
+        ]
+
+
+class Room:
+    """A copy of the tree, where versions are tried on the worked examples of one crate."""
+
+    def __init__(self, tree: Tree, crate: str, room: Path) -> None:
+        self.crate, self.specs = crate, Specs(tree)
+        self.folder = room / "crates" / crate
+        ignored = shutil.ignore_patterns("out", "must-fail", "wrong-bodies")
+        shutil.copytree(tree.crates, room / "crates", ignore=ignored)
+        for name in ("crates.txt", "HANDLES"):
+            shutil.copy2(tree.top / name, room / name)
+        for built in tree.crates.glob("*/out/rlib"):
+            if built.parent.parent.name != crate:
+                there = room / "crates" / built.parent.parent.name / "out"
+                shutil.copytree(built, there / "rlib")
+        self.examples = list(examples_of(self.specs, crate))
+        self.closures = {it: closure(self.specs, [it]) for it in self.specs.text}
+
+    def proof_of(self, example: Example) -> str:
+        path = self.folder / example.answers
+        return path.read_text() if path.exists() else ""
+
+    def counting(self, example: Example, version: Version) -> list[str]:
+        """The clauses of an example that may refuse a version."""
+        proof, found = self.proof_of(example), []
+        foreign = foreign_lemmas(proof, version.definition, self.crate)
+        spoilt = {goal for name in foreign for goal in resting_on(proof, name)}
+        for clause in example.clauses:
+            rests = any(version.definition in self.closures[it] for it in clause.cited)
+            if rests and may_refuse(clause, version, self.specs):
+                if GOAL + clause.name not in spoilt:
+                    found.append(clause.name)
+        return found
+
+    def copied(self, examples: Iterable[Example], definition: Definition) -> set[Definition]:
+        """The definition, and all that rests on it and that these examples need."""
+        needed = {it for e in examples for clause in e.clauses for it in clause.cited}
+        cone = set().union(*(self.closures[it] for it in needed)) if needed else set()
+        return {it for it in cone if definition in self.closures[it]}
+
+    def trial_of(self, version: Version, number: int, first: int, end: int) -> Trial:
+        """A version with some examples that may refuse it: those that need few copies first."""
+        found = []
+        for example in self.examples:
+            names = self.counting(example, version)
+            copied = self.copied([example], version.definition)
+            if names and not any(self.specs.text[it][0].isspace() for it in copied):
+                is_dear = example.path.stem in DEAR
+                by_hand = bool(self.proof_of(example))
+                cost = (is_dear, len(copied), by_hand, len(example.head.text))
+                found.append((cost, example, names))
+        chosen = sorted(found, key=lambda it: it[0])[first:end]
+        counting = {
+            (example.path.stem, example.head.name, name)
+            for _, example, names in chosen
+            for name in names
+        }
+        return Trial(version, number, [it[1] for it in chosen], counting)
+
+    def clear(self) -> None:
+        """Removes what was written for earlier trials."""
+        for part in ("specs/internal/Wrong*", "src/worked/wrong*", "proofs/worked/wrong*"):
+            for path in self.folder.glob(part):
+                shutil.rmtree(path) if path.is_dir() else path.unlink()
+        for name in ("specs/internal.antt", "src/worked.rt"):
+            lines = (self.folder / name).read_text().splitlines(keepends=True)
+            kept = [line for line in lines if not line.lower().startswith("pub mod wrong")]
+            (self.folder / name).write_text("".join(kept))
+
+    def write(self, trial: Trial) -> list[str]:
+        """Writes a version and what rests on it as modules, and copies of its examples.
+
+        Gives the functions to check.
+        """
+        copied = self.copied(trial.examples, trial.version.definition)
+        files = sorted({it[:2] for it in copied})
+        moved: dict[tuple[str, str, str], str] = {}
+        for at, file in enumerate(files):
+            module = f"Rattle.{self.crate}.specs.internal.Wrong{trial.number}_{at}"
+            for it in copied:
+                if it[:2] == file:
+                    moved[it] = module
+            for place, owner in self.specs.made_by.items():
+                if owner in copied and place[:2] == file:
+                    moved[place] = module
+        for at, file in enumerate(files):
+            self.write_module(trial, f"Wrong{trial.number}_{at}", file, moved)
+        unfolding = [
+            f"crate::specs::internal::{moved[it].rpartition('.')[2]}::{it.name}"
+            for it in sorted(copied)
+            if "unfoldable" in self.specs.text[it].partition(" : ")[0]
+        ]
+        functions = []
+        for stem in dict.fromkeys(it.path.stem for it in trial.examples):
+            examples = [it for it in trial.examples if it.path.stem == stem]
+            source = (self.folder / f"src/worked/{stem}.rt").read_text()
+            head = redirected(source.partition("///")[0], moved)
+            if unfolding:
+                own = f"#![tactic(auto, unfolding({', '.join(unfolding)}))]\n"
+                head = re.sub(r"^(?=ghost use)", own, head, count=1, flags=re.MULTILINE)
+            bodies = ["\n".join(it.head.lines) + "\n" for it in examples]
+            path = self.folder / f"src/worked/wrong{trial.number}_{stem}.rt"
+            path.write_text("\n".join([head, *bodies]))
+            self.append("src/worked.rt", f"pub mod wrong{trial.number}_{stem};\n")
+            for example in examples:
+                self.copy_proof(example, trial, moved)
+                name = example.head.name
+                functions.append(f"{self.crate}::worked::wrong{trial.number}_{stem}::{name}")
+        return functions
+
+    def write_module(
+        self,
+        trial: Trial,
+        name: str,
+        file: tuple[str, str],
+        moved: dict[tuple[str, str, str], str],
+    ) -> None:
+        """Writes the definitions of one file that rest on the version, and what they import."""
+        specs = self.specs
+        own = f"Rattle.{file[0]}.specs.{file[1]}"
+        here = [it for it in specs.files[file].names if (*file, it) in moved]
+        made = [it for (*place, it) in specs.made_by if tuple(place) == file]
+        others = [it for it in [*specs.files[file].names, *made] if (*file, it) not in moved]
+        uses = "".join(it.group(0) for it in USES.finditer(specs.files[file].text))
+        uses = redirected(uses.replace("pub use", "use"), moved)
+        uses += f"use {own}.{{{', '.join(others)}}}\n" if others else ""
+        texts = []
+        for it in here:
+            definition = Definition(*file, it)
+            is_wrong = definition == trial.version.definition
+            texts.append(trial.version.text if is_wrong else own_lines(specs.text[definition]))
+        text = "\n\n".join([f"-- A wrong version.\n{uses}", *texts]) + "\n"
+        text = with_imports(text, trial.version.needs)
+        (self.folder / f"specs/internal/{name}.antt").write_text(text)
+        self.append("specs/internal.antt", f"pub mod {name}\n")
+
+    def copy_proof(
+        self, example: Example, trial: Trial, moved: dict[tuple[str, str, str], str]
+    ) -> None:
+        proof, stem, name = self.proof_of(example), example.path.stem, example.head.name
+        if proof:
+            copy = f"worked.wrong{trial.number}_{stem}.{name}"
+            path = self.folder / "proofs" / copy.replace(".", "/") / "Answers.antt"
+            path.parent.mkdir(parents=True)
+            proof = redirected(proof, moved)
+            path.write_text(proof.replace(f"worked.{stem}.{name}.Goals", f"{copy}.Goals"))
+
+    def append(self, name: str, line: str) -> None:
+        path = self.folder / name
+        path.write_text(path.read_text() + line)
+
+    def check(self, trials: Sequence[Trial], prefix: Sequence[str]) -> str:
+        """Checks the copies, notes which of their clauses failed, and gives what the check said."""
+        self.clear()
+        only = [function for trial in trials for function in self.write(trial)]
+        words = [*prefix, "rt", "check", "--allow-holes", "--jobs", "1"]
+        words += [word for path in only for word in ("--only", path)]
+        run = subprocess.run(
+            words,
+            cwd=self.folder,
+            stdout=subprocess.PIPE,
+            stderr=subprocess.STDOUT,
+            text=True,
+            errors="replace",
+            timeout=SECONDS,
+        )
+        note(self.folder, trials, run.stdout)
+        return run.stdout
+
+
+def blocks_of(proof: str) -> dict[str, str]:
+    """The declarations of a proof, each with its text."""
+    blocks: dict[str, str] = {}
+    name = ""
+    for line in proof.splitlines():
+        begin = DECLARATION.match(line)
+        name = begin.group(1) if begin else name
+        if name:
+            blocks[name] = blocks.get(name, "") + line + "\n"
+    return blocks
+
+
+def resting_on(proof: str, name: str) -> list[str]:
+    """The clauses whose proofs rest on a declaration of this proof."""
+    blocks, found = blocks_of(proof), {name}
+    while True:
+        words = re.compile("|".join(rf"(?<![\w-]){re.escape(it)}(?![\w-])" for it in found))
+        more = {it for it, text in blocks.items() if it not in found and words.search(text)}
+        if not more:
+            return [it for it in found if it.startswith(GOAL)]
+        found |= more
+
+
+def note(folder: Path, trials: Sequence[Trial], said: str) -> None:
+    """Notes at each version what a check said of its copies."""
+    by_number = {it.number: it for it in trials}
+    for line in said.splitlines():
+        unread, unstated = UNREAD.search(line), UNSTATED.search(line)
+        in_proof, in_source = IN_PROOF.search(line), IN_SOURCE.search(line)
+        if unread:
+            by_number[int(unread.group(1))].unread = unread.group(2)
+        elif unstated:
+            by_number[int(unstated.group(1))].unread = "an example can't be stated of it"
+        elif in_proof:
+            number, stem, function, name = in_proof.groups()
+            place = f"proofs/worked/wrong{number}_{stem}/{function}/Answers.antt"
+            for goal in resting_on((folder / place).read_text(), name):
+                by_number[int(number)].failed.append((stem, function, goal[len(GOAL) :]))
+        elif in_source:
+            number, stem, at, name = in_source.groups()
+            source = (folder / f"src/worked/wrong{number}_{stem}.rt").read_text()
+            heads = [it.name for it in heads_of(source) if it.first <= int(at)]
+            by_number[int(number)].failed.append((stem, heads[-1], name))
+            by_number[int(number)].searched.add((stem, heads[-1], name))
+
+
+@dataclass(frozen=True)
+class Judgement:
+    """What came of a numbered version: refused, let through or not tried, and by what or why."""
+
+    number: int
+    version: Version
+    word: str
+    by: str
+
+
+def judgement_of(trial: Trial) -> Judgement | None:
+    """What a trial says of its version; None if no example refused it."""
+    found = trial.refusers()
+    if trial.unread:
+        return Judgement(trial.number, trial.version, "not tried", trial.unread)
+    if found:
+        return Judgement(trial.number, trial.version, "refused", "; ".join(found[:3]))
+    return None
+
+
+def try_versions(
+    room: Room, versions: Sequence[tuple[int, Version]], prefix: Sequence[str]
+) -> Iterator[Judgement]:
+    """Tries numbered versions. One that no example refuses is tried on more of them."""
+    left = list(versions)
+    for first, end in PASSES:
+        trials = []
+        for number, version in left:
+            trial = room.trial_of(version, number, first, end)
+            if trial.examples:
+                trials.append(trial)
+            elif first == 0:
+                yield Judgement(number, version, "not tried", "no example may refuse it")
+            else:
+                yield Judgement(number, version, "LET THROUGH", "every example is proved of it")
+        left = []
+        for at in range(0, len(trials), MOST_VERSIONS):
+            batch = trials[at : at + MOST_VERSIONS]
+            room.check(batch, prefix)
+            for trial in batch:
+                judgement = judgement_of(trial)
+                if judgement:
+                    yield judgement
+                else:
+                    left.append((trial.number, trial.version))
+    for number, version in left:
+        yield Judgement(number, version, "LET THROUGH", "every example is proved of it")
