@@ -16,7 +16,7 @@ ghost use Rattle.urb_worker.specs.Desks.{DeskView, HasAccepted, Looks};
 /// desk said that a submit was accepted, and any desk of the same House looked at its node's list,
 /// before it or after it. If the list has an entry p.n, the entry has the message. The desks may be
 /// of different nodes and sessions. Of the events that they had seen, one list is a prefix of the
-/// other, as `ReadPosition::agrees_with` says.
+/// other, because both are moments of one House.
 pub fn what_is_accepted_is_what_desks_read()
     ensures { (opened : GroupView) (seen history : List Event) (p : ℕ) (m : Content) (seq : ℕ)
         (before after : DeskView) (e : Entry)
