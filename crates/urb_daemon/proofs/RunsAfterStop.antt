@@ -12,7 +12,7 @@ use Rattle.urb_group.specs.World.{World}
 use Rattle.urb_daemon.specs.declared.serve_fault.ServeFault.{ServeFault}
 use Rattle.urb_daemon.specs.declared.serve_fault.ServeFault.TheVariants.{Network, Unopened}
 use Rattle.urb_daemon.specs.declared.network_fault.NetworkFault.{NetworkFault}
-use Rattle.urb_folder.specs.GroupsAfterStop.{ContinuesTogether}
+use Rattle.urb_folder.specs.GroupsAfterStop.{ContinuesTogether, beside_stores}
 use Rattle.urb_folder.specs.AskedStores.{OpensTogether}
 use Rattle.urb_daemon.specs.RunsAfterStop.{EndsAfterStop}
 use Rattle.urb_daemon.specs.Runs.{EndsAs, EndsFrom, HaveServed, StopsIfEnded}

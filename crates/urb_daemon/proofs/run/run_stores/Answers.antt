@@ -1,7 +1,7 @@
 use Rattle.std.proofs.Common.{Err, Ok, inl, refl, rules, subst, ◌≡◌}
 use Rattle.urb_worker.proofs.ServedStores.{unserved}
-use Rattle.urb_daemon.proofs.RunsAfterStop.{ends-by-events, stops-if-ended, ends-opened, ends-without-network}
-use Rattle.urb_daemon.proofs.RunsAfterStop.{refused-after-stop, served-after-stop}
+use Rattle.urb_daemon.proofs.RunsAfterStop.{ends-by-events, ends-opened, ends-without-network}
+use Rattle.urb_daemon.proofs.RunsAfterStop.{refused-after-stop, served-after-stop, stops-if-ended}
 use Rattle.urb_daemon.proofs.StoresComeBack.{come_back, come_back_at_once}
 use Rattle.urb_daemon.specs.Runs.{limits_of}
 use Rattle.urb_daemon.specs.declared.serve_fault.ServeFault.TheVariants.{Network, Unopened}
