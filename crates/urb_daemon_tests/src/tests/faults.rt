@@ -64,7 +64,13 @@ fn a_refused_folder_is_named_with_its_cause(rt: HostRuntime) -> Result<(), Fail>
 #[test]
 fn a_refused_journal_is_named_with_its_cause(rt: HostRuntime) -> Result<(), Fail> {
     assert!(rt; is_cleared(&rt, FOLDER));
-    let Ok(held) = open_journals::<NodeFile<Brand>, HostRuntime>(&rt, &rt, FOLDER, 1, FolderClaim::new()) else {
+    let Ok(held) = open_journals::<NodeFile<Brand>, HostRuntime>(
+        &rt,
+        &rt,
+        FOLDER,
+        1,
+        FolderClaim::new(),
+    ) else {
         return Err("a journal".into());
     };
     let line = b"urbd: refused 15 0: urbd_faults/node-1.db: another process holds it\n".as_slice();

@@ -84,8 +84,9 @@ where
     };
     let terminal = Terminal::new(alloc, words, b"", open);
     let claim = FolderClaim::new();
-    let status =
-        run_program::<NodeFile<Brand>, _, _, _, _>(rt, files, &terminal, input, output, claim);
+    let status = run_program::<NodeFile<Brand>, _, _, _, _>(
+        rt, files, &terminal, input, output, claim,
+    );
     let mut shown = terminal.into_shown(status);
     for text in errors.iter(&rt) {
         if is_kept(text.as_str()) {

@@ -189,7 +189,13 @@ where
     R: Host + Net<Listener = TcpListener, Stream = TcpStream>,
 {
     let (dir, nodes) = (serving.dir, serving.nodes);
-    let journals = match open_journals::<NodeFile<Brand>, R>(threads, rt, dir, nodes, FolderClaim::new()) {
+    let journals = match open_journals::<NodeFile<Brand>, R>(
+        threads,
+        rt,
+        dir,
+        nodes,
+        FolderClaim::new(),
+    ) {
         Ok(journals) => journals,
         Err(why) => return Err(fault_of_folder(why)),
     };
@@ -280,7 +286,13 @@ pub fn open_and_leave<R: Threads + Sync>(
     nodes: u8,
     leave: Leave,
 ) -> Result<(), Fault> {
-    let journals = match open_journals::<NodeFile<Brand>, R>(threads, rt, folder, nodes, FolderClaim::new()) {
+    let journals = match open_journals::<NodeFile<Brand>, R>(
+        threads,
+        rt,
+        folder,
+        nodes,
+        FolderClaim::new(),
+    ) {
         Ok(journals) => journals,
         Err(why) => return Err(fault_of_folder(why)),
     };

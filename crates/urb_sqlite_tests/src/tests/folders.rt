@@ -188,7 +188,8 @@ fn is_right(rt: &HostRuntime, (sql, damage, wanted): &(&str, Damage, Said)) -> b
 fn a_file_that_is_new_has_small_pages(rt: HostRuntime) -> Result<(), Fail> {
     let _ = fs::remove_dir_all(&rt, FOLDER);
     fs::create_dir(&rt, FOLDER)?;
-    let Ok(journals) = open_nodes::<NodeFile<Brand>>(&rt, FOLDER, three(), FolderClaim::new()) else {
+    let Ok(journals) = open_nodes::<NodeFile<Brand>>(&rt, FOLDER, three(), FolderClaim::new())
+    else {
         return Err(Fail::new(format_args!("they do not open")));
     };
     let is_closed = close_nodes(&rt, FOLDER, journals).is_ok();
