@@ -59,7 +59,7 @@ fn count_threads(folder: &Folder<'_>, count: usize) -> usize
     fit_together(count, longest)
 }
 
-// The claim of the next node. Behind the greatest node there is none, so the place is refused.
+// The claim of the next node. No node follows the greatest one, so its place is refused.
 fn claim_next<D: NodeDisk>(claims: &mut NodeClaims<D>) -> Found<D>
     ensures { (place : ℕ) → IsGiven place claims.old
         → IsFoundAt (OpensIn D.Disk D.NodeDisk.held) place result × IsGiven (place + 1) claims.new }

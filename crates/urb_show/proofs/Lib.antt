@@ -8,8 +8,8 @@
 -- can conclude stands last (AgreeingLists, AgreeingPages).
 -- The events of a house stand apart: prefixes of its past (PastPrefixes), the past after one more
 -- event (PastEvents), and the place and reply of an event in each longer history (ToldReplies). What
--- rounds in a past deliver is in HouseRounds. Where in the history the lists are delivered that
--- readers see stands in DeliveredPlaces and TimelyAdditions.
+-- rounds in a past deliver is in HouseRounds. DeliveredPlaces and TimelyAdditions say when
+-- the nodes had delivered the lists that readers see.
 -- The main lemmas are `lists_grow` (GroupLists), `goes_on_agrees` (AgreeingLists) and
 -- `readers_never_contradict` (AgreeingPages). They rest on urb_group's lemmas about what nodes have
 -- delivered, and on the specifications of the crates left_right and logbook.

@@ -1,4 +1,4 @@
--- The additions to a house's lists come with events by which the nodes had delivered the lists.
+-- Each addition to a house's lists has its events. After these, the nodes had delivered the lists.
 use Rattle.std.proofs.Common.{List, [], ap, refl, subst, sym, ◌++◌, ◌∙◌, ◌∷◌, ◌≡◌, ◌⊎◌}
 use Rattle.std.proofs.Common.{inl, inr, ⊎_elim}
 use Rattle.std.proofs.lemmas.List.Sums.{fold-append}
@@ -47,7 +47,7 @@ all_timely_none names log empty delivered part p =
     none_before part (subst (λ (l : List Addition). IsPrefix part l) empty p) in
     subst (IsTimely names) (sym none) (timely_none names delivered)
 
--- one more addition that comes with events by which the nodes had delivered the lists
+-- one more addition, which the nodes had delivered after the events that come with it
 pub timely_more : (names : NameView) (log : List Addition) (a : Addition) → AreTimely names log
     → a.events.book ≡ names.history
     → AreDeliveredBy names.origin a.events.log (lists_of names.base (log ++ a ∷ []))

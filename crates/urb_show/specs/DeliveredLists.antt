@@ -19,8 +19,8 @@ abbrev pub HaveDelivered : World → Lists → Type 0
 HaveDelivered w lists =
     (place : ℕ) → IsBeginning (map in_log (list_at lists place)) (entries (stored w (suc place)))
 
--- From each world that the group showed at the opening, these events lead to a world in which the
--- list of each node is a prefix of what the node has delivered.
+-- These events lead from each world that the group showed at the opening to another world. There
+-- the list of each node is a prefix of what the node has delivered.
 abbrev pub AreDeliveredBy : GroupView → List Event → Lists → Type 0
 AreDeliveredBy opened past lists =
     (w : World) → Shows opened w → HaveDelivered (after w past) lists

@@ -43,7 +43,7 @@ pub record Grew (place : ℕ) (before after : HouseView) : Type 0 where
   pub others : (q : ℕ) → place ≢ q → list_at after.prepared q ≡ list_at before.prepared q
 
 -- The node's published list is its entries, and each other list is the one that had been prepared.
--- The token stands for all lists that are published, and for all events so far.
+-- The token names all lists that are published, and all events so far.
 pub record Settled (place : ℕ) (before after : HouseView) (token : ToldView) : Type 0 where
   pub group : after.group ≡ before.group
   pub events : after.events ≡ before.events

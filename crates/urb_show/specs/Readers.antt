@@ -13,7 +13,7 @@ pub record ReaderView : Type 0 where
   pub told : Lists
   pub past : List Event
 
--- what a token stands for: lists that were published, and all events until then
+-- what a token names: lists that were published, and all events until then
 pub record ToldView : Type 0 where
   pub lists : Lists
   pub past : List Event

@@ -59,8 +59,8 @@ pub fn who_learns_agrees()
         AreOfOneHistory token.lists last.seen }
 {}
 
-/// That readers agree follows from the places of what they saw. The lists that two readers saw were
-/// delivered at two places of one history. So for any two nodes and each sender, its entries in one
+/// Readers agree, because each saw its lists at a place of the history. The lists that two readers
+/// saw were delivered at two places of one history. So for any two nodes and each sender, its entries in one
 /// list are a prefix of those in the other.
 pub fn lists_agree_by_their_places()
     ensures { (opened : GroupView) (past later : List Event) (these those : Lists) →

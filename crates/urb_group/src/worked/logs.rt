@@ -30,8 +30,8 @@ pub fn logs()
 {}
 
 /// The log of any records has each sender's names 1, 2, 3, .. in order, and no name twice. So two
-/// fields of what makes a world safe hold of every world: `numbers` of `IsInOrder`, and `no_twice`
-/// of `Safe`.
+/// fields say nothing that isn't true of every world: `numbers` of `IsInOrder`, and `no_twice` of
+/// `Safe`.
 pub fn what_every_log_is()
     ensures numbers { (records : List Entry) (s : ℕ) →
         part_of s (log records) ≡ names s (length (part_of s (log records))) }
