@@ -1,14 +1,19 @@
 -- How a run of a group ends, also over stores that a stop had left.
-use Rattle.std.proofs.Common.{Bool, Err, IfOk, IfSome, List, None, Ok, Option, Result, Some, ap}
-use Rattle.std.proofs.Common.{arith, false, inl, inr, refl, subst, sym, true, ℕ, ◌∙◌, ◌≡◌}
+use Rattle.std.proofs.Common.{Bool, Err, IfSome, List, None, Ok, Option, Result, Some, [], ap}
+use Rattle.std.proofs.Common.{arith, false, inl, inr, refl, subst, suc, sym, true, ℕ, ◌≡◌}
+use Rattle.std.proofs.lemmas.List.Elements.{recursion_from_All}
 use Rattle.std.specs.List.{All}
+use Rattle.std.specs.Prelude.{slice_get, slice_index_or}
 use Rattle.urb_names.specs.LabelsAndContents.{Limits}
 use Rattle.urb_names.specs.declared.refusal.Refusal.{Refusal}
 use Rattle.urb_stable.specs.declared.stable.Stable.{Ghosts}
-use Rattle.urb_group.specs.StoreContents.{IsKnown, IsSecured}
+use Rattle.urb_group.proofs.stops.OpenedClusters.{given-at, given-store}
+use Rattle.urb_group.proofs.stops.SecuredClusters.{lasting-honest, read-honest}
+use Rattle.urb_group.proofs.stops.StockedPlays.{all-at}
+use Rattle.urb_group.specs.StoreContents.{IsKnown, IsLasting, IsSecured, IsStoreOf}
 use Rattle.urb_group.specs.StoreOpenings.{HasStopped}
-use Rattle.urb_group.specs.GroupViews.{GroupView}
-use Rattle.urb_group.specs.World.{World}
+use Rattle.urb_group.specs.GroupViews.{GroupView, IsSound}
+use Rattle.urb_group.specs.World.{World, image_of, opened}
 use Rattle.urb_daemon.specs.declared.serve_fault.ServeFault.{ServeFault}
 use Rattle.urb_daemon.specs.declared.serve_fault.ServeFault.TheVariants.{Network, Unopened}
 use Rattle.urb_daemon.specs.declared.network_fault.NetworkFault.{NetworkFault}
@@ -17,7 +22,7 @@ use Rattle.urb_folder.specs.AskedStores.{OpensTogether}
 use Rattle.urb_daemon.specs.RunsAfterStop.{EndsAfterStop}
 use Rattle.urb_daemon.specs.Runs.{EndsAs, EndsFrom, HaveServed, StopsIfEnded}
 use Rattle.urb_daemon.specs.internal.Runs.{end_of}
-use Rattle.urb_worker.proofs.EndedRuns.{leaves_stopped}
+use Rattle.urb_worker.proofs.EndedRuns.{leaves_stopped, leaves_would}
 use Rattle.urb_worker.specs.ServedStores.{EndsWhole}
 
 -- ---- how a run ends
@@ -38,59 +43,88 @@ pub ends-without-network :
     (why : NetworkFault) (told : Bool) → EndsAs told (Err (Network why))
 ends-without-network why told = tt
 
+-- what an opening says of its group, under the limits that its caller names
+pub as-opened :
+    {S A : Type 0} (g : Ghosts S A) (size own : Limits) (stores : List S)
+    (result : Result GroupView Refusal) (group : GroupView) (asked : List S)
+    → size ≡ own → result ≡ Ok group → OpensTogether g size stores result asked
+    → OpensTogether g own stores (Ok group) asked
+as-opened g size own stores result group asked same is opens =
+    subst (λ l. OpensTogether g l stores (Ok group) asked) same
+    (subst (λ r. OpensTogether g size stores r asked) is opens)
+
 -- what a run leaves that came to its end
 pub stops-if-ended :
-    {S A : Type 0} (g : Ghosts S A) (size own : Limits) (stores : List S)
-    (result : Result GroupView Refusal) (group : GroupView) (asked lasts : List S)
+    {S A : Type 0} (g : Ghosts S A) (own : Limits) (stores : List S) (group : GroupView)
+    (asked lasts : List S) (from : OpensTogether g own stores (Ok group) asked)
     (events : Option ℕ) (told : Bool) (end : Result ℕ ServeFault)
-    → size ≡ own → result ≡ Ok group
-    → (All (IsKnown g) stores → IfOk result (λ it. IsSecured g (beside_stores it asked)))
-    → IfOk result (λ it. it.size ≡ size)
     → IfSome events (λ count. EndsWhole g group asked lasts) → end ≡ end_of events told
-    → All (IsKnown g) stores → StopsIfEnded g end own group lasts
-stops-if-ended {S} g size own stores result group asked lasts events told end same is secured sized
-    whole ends known =
-    subst (λ e. StopsIfEnded g e own group lasts) (sym ends) (at events told whole)
+    → All (IsKnown g) stores
+    → StopsIfEnded g end own group (opened own (image_of from.images)) lasts
+stops-if-ended {S} g own stores group asked lasts from events told end whole ends known =
+    subst (λ e. StopsIfEnded g e own group start lasts) (sym ends) (at events told whole)
   where
-    start : IsSecured g (beside_stores group asked)
-    start =
-        subst (λ r. IfOk r (λ it. IsSecured g (beside_stores it asked))) is (secured known)
+    start : World
+    start = opened own (image_of from.images)
 
-    nodes : group.size ≡ own
-    nodes = subst (λ r. IfOk r (λ it. it.size ≡ size)) is sized ∙ same
+    -- a store that gave its list belongs to the node that was opened from it
+    beside : (i : ℕ) (store : S) → slice_get asked i ≡ Some store
+        → IsStoreOf g (start.node (suc i)) store × IsLasting g (start.node (suc i)) store
+    beside i store got =
+        let one = given-at g stores from.images asked from.given i store got in
+        let image = slice_index_or from.images i [] in
+        let of = given-store g (suc i) image one.0 store one.2 in
+        let was =
+        all-at (IsKnown g) stores (recursion_from_All (IsKnown g) stores known) i one.0 one.1 in (
+          of,
+          lasting-honest g (start.node (suc i)) store of
+              (read-honest g one.0 store image one.2 was),
+        )
+
+    secured : IsSecured g (beside_stores group asked)
+    secured =
+        record {
+          stocked =
+              record {
+                world = start;
+                shows = from.opens.1;
+                stores = λ i store got. (beside i store got).0;
+              };
+          lasting = λ i store got. (beside i store got).1;
+        }
 
     at : (events : Option ℕ) (told : Bool)
         → IfSome events (λ count. EndsWhole g group asked lasts)
-        → StopsIfEnded g (end_of events told) own group lasts
+        → StopsIfEnded g (end_of events told) own group start lasts
     at None told w = tt
     at (Some count) false w = tt
     at (Some count) true w =
+        let nodes = ap (λ (l : Limits). l.n) from.opens.1.size in
         record {
-          start = start.stocked.world;
-          opening = start.stocked.shows;
           history = w.history;
           later = w.group;
           leads = w.leads;
           stopped =
-              leaves_stopped g (beside_stores group asked) own lasts start w
-              (omega (arith, ap (λ l. l.n) nodes));
+              leaves_stopped g (beside_stores group asked) own lasts secured w
+              (omega (arith, nodes));
+          left = leaves_would g (beside_stores group asked) lasts secured w;
         }
 
 -- the end of a run of a group that was opened from these stores
 pub ends-opened :
-    {S A : Type 0} (g : Ghosts S A) (size own : Limits) (stores : List S)
-    (result : Result GroupView Refusal) (group : GroupView) (asked lasts : List S) (told : Bool)
+    {S A : Type 0} (g : Ghosts S A) (own : Limits) (stores : List S) (group : GroupView)
+    (asked lasts : List S) (from : OpensTogether g own stores (Ok group) asked) (told : Bool)
     (end : Result ℕ ServeFault)
-    → size ≡ own → result ≡ Ok group → OpensTogether g size stores result asked
     → HaveServed g group asked lasts
-    → (All (IsKnown g) stores → StopsIfEnded g end own group lasts) → EndsAs told end
+    → (All (IsKnown g) stores
+    → StopsIfEnded g end own group (opened own (image_of from.images)) lasts)
+    → EndsAs told end
     → EndsFrom g own stores told end lasts
-ends-opened g size own stores result group asked lasts told end same is opens served leaves ends =
-    let from = subst (λ r. OpensTogether g size stores r asked) is opens in
+ends-opened g own stores group asked lasts from told end served leaves ends =
     inr (record {
       group = group;
       asked = asked;
-      opens = subst (λ l. OpensTogether g l stores (Ok group) asked) same from;
+      opens = from;
       served = served;
       leaves = leaves;
       ends = ends;
@@ -98,27 +132,29 @@ ends-opened g size own stores result group asked lasts told end same is opens se
 
 -- ---- how a run over what a stop had left ends
 
--- over honest stores, a run whose group opened after a stop goes on from the stopped world until
+-- over intact stores, a run whose group opened after a stop goes on from the stopped world until
 -- the run ends
 pub served-after-stop :
     {S A : Type 0} (g : Ghosts S A) (size own : Limits) (stores : List S)
-    (result : Result GroupView Refusal) (group : GroupView) (asked lasts : List S) (told : Bool)
-    (end : Result ℕ ServeFault)
-    → size ≡ own → result ≡ Ok group → OpensTogether g size stores result asked
+    (result : Result GroupView Refusal) (group : GroupView) (asked lasts : List S)
+    (from : OpensTogether g own stores (Ok group) asked) (told : Bool) (end : Result ℕ ServeFault)
+    → size ≡ own → result ≡ Ok group → IsSound group
     → ((old : GroupView) (w : World) → HasStopped g old w size stores
     → ContinuesTogether g old w size stores result asked)
     → HaveServed g group asked lasts
-    → (All (IsKnown g) stores → StopsIfEnded g end own group lasts) → EndsAs told end
+    → (All (IsKnown g) stores
+    → StopsIfEnded g end own group (opened own (image_of from.images)) lasts)
+    → EndsAs told end
     → (old : GroupView) (w : World) → HasStopped g old w own stores
     → EndsAfterStop g old w own stores told end lasts
-served-after-stop g size own stores result group asked lasts told end same is opens goes_on served
-    leaves ends old w stopped =
+served-after-stop g size own stores result group asked lasts from told end same is sound goes_on
+    served leaves ends old w stopped =
     let was = subst (λ l. HasStopped g old w l stores) (sym same) stopped in
-    let from = subst (λ r. OpensTogether g size stores r asked) is opens in
     inr (record {
       group = group;
       asked = asked;
-      opens = subst (λ l. OpensTogether g l stores (Ok group) asked) same from;
+      opens = from;
+      sound = sound;
       goes_on = subst (λ r. ContinuesTogether g old w size stores r asked) is (goes_on old w was);
       served = served;
       leaves = leaves;

@@ -1,6 +1,7 @@
 pub mod ClientService
 pub mod Doors
 pub mod Endings
+pub mod Lives
 pub mod NetworkFaults
 pub mod OpeningFaults
 pub mod Programs

@@ -15,15 +15,16 @@ use Rattle.urb_cli.specs.declared.command_line.task.Line.{Line}
 use Rattle.urb_cli.specs.declared.command_line.task.Line.TheVariants as line
 use Rattle.urb_daemon.specs.Endings.{ShowsEnd}
 use Rattle.urb_daemon.specs.Runs.{ComeBack, EndsFrom, limits_of}
-use Rattle.urb_daemon.specs.RunsAfterStop.{EndsAfterStop}
+use Rattle.urb_daemon.specs.RunsAfterStop.{EndsAfterStop, Resumes}
 use Rattle.urb_daemon.specs.declared.serve_fault.ServeFault.{ServeFault}
 use Rattle.urb_folder.specs.OpenedJournals.{AreOfNodes}
+use Rattle.urb_folder.specs.StoppedFiles.{HasLeft}
 
 module _ {J A : Type 0} (g : Ghosts J A) (node : J → ℕ) (held : ℕ → Image) where
   -- A group ran over the journals of its folder. There was one for each node, and each was found in
-  -- what its node's files held. The group went on from what a stop had left in them, and they are
-  -- closed as their nodes' turns left them. Standard output, which has these bytes at last, and the
-  -- status show how the run ended.
+  -- what its node's files held. The group went on from what a stop had left in the journals, or in
+  -- the files. The journals are closed as their nodes' turns left them. Standard output, which has
+  -- these bytes at last, and the status show how the run ended.
   pub record RanFolder (size : Limits) (new : Option (List ℕ)) (status : ℕ) : Type 0 where
     pub journals : List J
     pub lasts : List J
@@ -38,6 +39,9 @@ module _ {J A : Type 0} (g : Ghosts J A) (node : J → ℕ) (held : ℕ → Imag
     pub goes_on :
         (old : GroupView) (w : World) → HasStopped g old w size journals
         → EndsAfterStop g old w size journals told end lasts
+    pub resumes :
+        (old : GroupView) (w : World) → HasLeft held old w size
+        → Resumes g old w size journals told end lasts
     pub shows : ShowsEnd end before new status
 
   -- The end of a group, and the bytes of standard output before and after. It never ran: nothing is

@@ -8,12 +8,12 @@ use Rattle.urb_stable.specs.Entries.{Entry}
 use Rattle.urb_stable.specs.declared.stable.Stable.{Ghosts}
 use Rattle.urb_stable.specs.declared.stable.StoreFault.{StoreFault}
 use Rattle.urb_group.specs.StoreQuestions.{Gives}
-use Rattle.urb_group.specs.GroupViews.{GroupView, Shows}
+use Rattle.urb_group.specs.GroupViews.{GroupView}
 use Rattle.urb_group.specs.RecoveryPlans.{after}
 use Rattle.urb_group.specs.Step.{Event}
-use Rattle.urb_group.specs.StoreContents.{IsKnown}
+use Rattle.urb_group.specs.StoreContents.{IsKnown, WouldLeave}
 use Rattle.urb_group.specs.StoreOpenings.{HasStopped}
-use Rattle.urb_group.specs.World.{World}
+use Rattle.urb_group.specs.World.{World, image_of, opened}
 use Rattle.urb_show.specs.Pasts.{IsLedTo}
 use Rattle.urb_worker.specs.ServedStores.{AreServed, numbers_from}
 use Rattle.urb_cli.specs.declared.command_line.options.ServeOptions.{ServeOptions}
@@ -60,21 +60,21 @@ module _ {S A : Type 0} (g : Ghosts S A) where
     pub first : MayAllBeAsked stores asked
     pub then : (lasts ≡ asked) ⊎ ((group : GroupView) × HaveServed group asked lasts)
 
-  -- A run of this group ended. Its history led from a world of the opened group to a last one, and
-  -- the stores hold what a stop leaves of that one. So the next start, under these limits, goes on
-  -- from there.
-  pub record StopsAfter (size : Limits) (group : GroupView) (lasts : List S) : Type 0 where
-    pub start : World
-    pub opening : Shows group start
+  -- A run ended whose group showed this world when it was opened. Its history led to a last group.
+  -- The stores hold what a stop leaves of the world after the history, and so do they after a stop
+  -- of the machine. The next start, under these limits, goes on from there.
+  pub record StopsAfter (size : Limits) (group : GroupView) (start : World) (lasts : List S)
+      : Type 0 where
     pub history : List Event
     pub later : GroupView
     pub leads : IsLedTo group history later
     pub stopped : HasStopped g later (after start history) size lasts
+    pub left : WouldLeave g (after start history) lasts
 
   -- the same, if the run came to its end
-  abbrev pub StopsIfEnded : Result ℕ ServeFault → Limits → GroupView → List S → Type 0
-  StopsIfEnded (Ok events) size group lasts = StopsAfter size group lasts
-  StopsIfEnded (Err why) size group lasts = Unit {0}
+  abbrev pub StopsIfEnded : Result ℕ ServeFault → Limits → GroupView → World → List S → Type 0
+  StopsIfEnded (Ok events) size group start lasts = StopsAfter size group start lasts
+  StopsIfEnded (Err why) size group start lasts = Unit {0}
 
   -- the group could not be opened from these stores, and the run ends with that refusal
   pub record EndsUnopened (size : Limits) (stores : List S) (end : Result ℕ ServeFault)
@@ -83,14 +83,16 @@ module _ {S A : Type 0} (g : Ghosts S A) where
     pub opens : OpensTogether g size stores (Err why) lasts
     pub ends : end ≡ Err (Unopened why)
 
-  -- the group was opened from these stores, and they served it until the run ended
+  -- The group was opened from what these stores gave, and they served it until the run ended. If each
+  -- was honest or shut by a failure, they stop after the world that was opened from that.
   pub record EndsOpened (size : Limits) (stores : List S) (told : Bool) (end : Result ℕ ServeFault)
       (lasts : List S) : Type 0 where
     pub group : GroupView
     pub asked : List S
     pub opens : OpensTogether g size stores (Ok group) asked
     pub served : HaveServed group asked lasts
-    pub leaves : All (IsKnown g) stores → StopsIfEnded end size group lasts
+    pub leaves : All (IsKnown g) stores
+        → StopsIfEnded end size group (opened size (image_of opens.images)) lasts
     pub ends : EndsAs told end
 
   -- how a run over these stores ends, and the stores after it, depending on whether its opening was

@@ -21,6 +21,7 @@
 
 mod console;
 mod error_output;
+pub mod laws;
 mod network_fault;
 mod opening_fault;
 mod program;

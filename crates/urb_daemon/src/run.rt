@@ -150,6 +150,8 @@ where
         Ok(group) => group,
         Err(refusal) => return (stores, Err(ServeFault::Unopened(refusal))),
     };
+    // Does nothing at run time; it brings the group's invariant into the proof.
+    group.recall();
     match open_network(rt, alloc, serving) {
         Ok(network) => {
             report_connections(reporter, serving, network.limits.connections);

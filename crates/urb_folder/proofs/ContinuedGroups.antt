@@ -3,9 +3,11 @@
 use Rattle.std.proofs.Common.{Err, IfOk, List, Ok, Result, Some, [], false, inl, inr, map, refl}
 use Rattle.std.proofs.Common.{subst, suc, sym, zero, ℕ, ◌++◌, ◌∙◌, ◌∷◌, ◌≡◌, ◌⊎◌}
 use Rattle.std.specs.List.{All}
-use Rattle.std.specs.Prelude.{Option, Vec, length, slice_get}
+use Rattle.std.specs.Prelude.{Option, Vec, length, slice_get, slice_index_or}
 use Rattle.std.proofs.lemmas.Bool.{false≢true}
 use Rattle.std.proofs.lemmas.List.Elements.{recursion_from_All}
+use Rattle.std.proofs.lemmas.Option.{get_or_from_slice_get}
+use Rattle.urb_names.proofs.Places.{get_some}
 use Rattle.urb_names.specs.LabelsAndContents.{Limits}
 use Rattle.urb_names.specs.declared.refusal.Refusal.{Refusal}
 use Rattle.urb_names.specs.declared.refusal.Refusal.TheVariants as refusal
@@ -16,7 +18,9 @@ use Rattle.urb_stable.specs.declared.stable.Stable.{Ghosts}
 use Rattle.urb_stable.specs.declared.stable.StoreFault.{StoreFault}
 use Rattle.urb_stable.specs.declared.stable.StoreFault.TheVariants as fault
 use Rattle.urb_group.proofs.stops.NodeStoreInvariant.{one-store}
-use Rattle.urb_group.proofs.stops.OpenedClusters.{opens-goes_on, opens-leaves, opens-stocked}
+use Rattle.urb_group.proofs.stops.OpenedClusters.{given-at, opens-goes_on, opens-leaves}
+use Rattle.urb_group.proofs.stops.OpenedClusters.{opens-stocked}
+use Rattle.urb_group.proofs.stops.SecuredClusters.{read-honest}
 use Rattle.urb_group.proofs.stops.SecuredOpenings.{opens-secured}
 use Rattle.urb_group.proofs.stops.StockedClusters.{asked-left}
 use Rattle.urb_group.proofs.stops.StockedPlays.{all-at}
@@ -233,7 +237,21 @@ pub unopened-together :
 unopened-together g size stores answer asked why gives is =
     inl (subst (λ them. RetrievesTogether g stores them asked) is gives)
 
--- A group that is opened after a stop goes on from the world before it, if its stores are honest.
+-- intact stores that gave their lists are honest
+intact-honest :
+    {S A : Type 0} (g : Ghosts S A) (stores : List S) (images : List (List Entry)) (asked : List S)
+    → AllGive g stores images asked → AreIntact g stores asked → All g.is_honest asked
+intact-honest g stores images asked given (inl honest) = honest
+intact-honest g stores images asked given (inr known) = λ k d low.
+    (let one = get_some asked k low in
+    let from = given-at g stores images asked given k one.0 one.1 in
+    let was = all-at (IsKnown g) stores (recursion_from_All (IsKnown g) stores known.0) k from.0
+    from.1 in
+    let clean = all-at g.is_clean asked (recursion_from_All g.is_clean asked known.1) k one.0 one.1 in
+    subst g.is_honest (sym (get_or_from_slice_get asked k one.0 d one.1))
+    (read-honest g from.0 one.0 (slice_index_or images k []) from.2 was clean))
+
+-- A group that is opened after a stop goes on from the world before it, if its stores are intact.
 pub goes-on-together :
     {S A : Type 0} (g : Ghosts S A) (size : Limits) (stores : List S)
     (result : Result GroupView Refusal) (asked : Vec S A)
@@ -241,8 +259,9 @@ pub goes-on-together :
     → (old : GroupView) (w : World) → HasStopped g old w size stores
     → ContinuesTogether g old w size stores result asked.items
 unfolding IsOfMachine
-goes-on-together g size stores (Ok group) asked h count old w stopped =
+goes-on-together g size stores (Ok group) asked h count old w stopped = λ intact.
     opens-goes_on g old w size stores stopped count (Ok (beside_stores group asked.items)) h
+    (intact-honest g stores h.images asked.items h.given intact)
 goes-on-together g size stores (Err why) asked (inr h) count old w stopped =
     opens-goes_on g old w size stores stopped count (Err (asked, why)) (inr h)
 goes-on-together g size stores (Err why) asked (inl h) count old w stopped = (

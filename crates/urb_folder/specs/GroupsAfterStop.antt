@@ -23,7 +23,7 @@ module _ {S A : Type 0} (g : Ghosts S A) where
   abbrev pub AreIntact : List S → List S → Type 0
   AreIntact passed asked = All g.is_honest asked ⊎ (All (IsKnown g) passed × All g.is_clean asked)
 
-  -- This is `Continues` of `urb_group`, for stores asked in parallel. Over honest stores a group
+  -- This is `Continues` of `urb_group`, for stores asked in parallel. Over intact stores a group
   -- that is opened goes on from the world before the stop. It is opened if the group may start with
   -- these limits, unless memory is refused or a device fails. This holds also if that failure, or
   -- an earlier one, has shut a store. After a refusal the stores still hold what the stop may have
@@ -31,7 +31,7 @@ module _ {S A : Type 0} (g : Ghosts S A) where
   abbrev pub ContinuesTogether :
       GroupView → World → Limits → List S → Result GroupView Refusal → List S → Type 0
   ContinuesTogether old w size passed (Ok group) asked =
-      All g.is_honest asked → ContinuesFrom g w passed group
+      AreIntact passed asked → ContinuesFrom g w passed group
   ContinuesTogether old w size passed (Err why) asked =
       HasStopped g old w size asked
       × (MayStartWith size w → AreIntact passed asked

@@ -9,7 +9,8 @@
 -- records with it or without it (`stops_at_insert`). The openings of the tables are built on it.
 -- The database is taken over (`taken_over`), or it is given back with its rows
 -- (`second_given_back`). JournalSchemas, NodeJournals and JournalStops come last: what an opening
--- finds in the files (`found_there`), and after a stop (`found_again`).
+-- finds in the files (`found_there`), and after a stop (`found_again`). FoundRecords says that it
+-- finds the records that the files hold (`found_as_held`).
 pub mod ResolvedSelects
 pub mod StatementTexts
 pub mod InsertStatement
@@ -30,4 +31,5 @@ pub mod CreateStatement
 pub mod JournalSchemas
 pub mod JournalStops
 pub mod NodeJournals
+pub mod FoundRecords
 pub mod BlankFiles

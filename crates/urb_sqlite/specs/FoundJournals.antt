@@ -1,5 +1,5 @@
 -- What the opening of a node's journal finds, depending on what its files held.
-use Rattle.std.specs.Prelude.{◌≡◌, ℕ, zero, suc, List, [], Some, slice_get}
+use Rattle.std.specs.Prelude.{◌≡◌, ◌⊎◌, ℕ, zero, suc, List, [], Some, slice_get}
 use Rattle.sqlite_disk.specs.declared.start.Start as start
 use Rattle.sqlite_wal.specs.Files.{image_at}
 use Rattle.sqlite_wal.specs.Recovery.{Image}
@@ -37,6 +37,13 @@ pub record IsFoundIf (is_unmade : Type 0) (image : Image) (is_clean is_honest : 
       → is_honest × (records ≡ [])
   pub adopted : is_clean → (db : Trees) → HoldsDatabase image db → (base : IsBase db)
       → is_honest × StandsFor (base_of base) records
+
+-- These files hold these records. They hold a database in which the records stand. Or they hold no
+-- database yet, and there is no record.
+abbrev pub HoldsRecords : Image → List Entry → Type 0
+HoldsRecords image records =
+    ((db : Trees) × HoldsDatabase image db × ((base : IsBase db) × StandsFor (base_of base) records))
+    ⊎ (((image.db ≡ []) ⊎ IsUnmade image) × (records ≡ []))
 
 -- What the opening of a pair of files finds. It makes a database in all files that are `IsUnmade`.
 abbrev pub IsFoundIn : Image → Type 0 → Type 0 → List Entry → Type 0

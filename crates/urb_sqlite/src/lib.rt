@@ -20,6 +20,7 @@ mod journal;
 mod journal_close;
 mod journal_open;
 mod journal_stop;
+pub mod laws;
 mod message_pool;
 mod new_file;
 mod node_file;

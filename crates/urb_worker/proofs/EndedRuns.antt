@@ -7,7 +7,8 @@ use Rattle.urb_names.specs.LabelsAndContents.{Limits}
 use Rattle.urb_group.specs.GroupStores.{Clustered}
 use Rattle.urb_group.specs.GroupViews.{GroupView, IsSound, Shows}
 use Rattle.urb_group.specs.RecoveryPlans.{after}
-use Rattle.urb_group.specs.StoreContents.{HoldsOf, IsLasting, IsSecured, IsStoreOf}
+use Rattle.urb_group.specs.StoreContents.{HoldsOf, IsLasting, IsSecured, IsStoreOf, LeavesOf}
+use Rattle.urb_group.specs.StoreContents.{WouldLeave}
 use Rattle.urb_group.specs.StoreOpenings.{HasStopped}
 use Rattle.urb_group.specs.Step.{Event}
 use Rattle.urb_group.specs.World.{World}
@@ -146,6 +147,19 @@ secured_stores g cluster secured =
           (subst (λ (n : ℕ). IsLasting g (w.node n) store) (omega arith)
           (secured.lasting i store got));
     })
+  where
+    w : World
+    w = secured.stocked.world
+
+-- A stop after a run's end leaves in each store what it may leave of its node.
+pub leaves_would : {S A : Type 0} (g : Ghosts S A) (cluster : Clustered S) (lasts : List S)
+    (secured : IsSecured g cluster) (ended : EndsWhole g cluster.group cluster.stores lasts)
+    → WouldLeave g (after secured.stocked.world ended.history) lasts
+leaves_would g cluster lasts secured ended i store got clean =
+    subst (λ (n : ℕ). LeavesOf g ((after w ended.history).node n) store) (omega arith)
+    ((one_after g w 1 ended.history lasts
+    (ended.stores w secured.stocked.shows (secured_stores g cluster secured)) i store
+    got).lasting.left clean)
   where
     w : World
     w = secured.stocked.world

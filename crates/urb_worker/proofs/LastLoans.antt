@@ -8,18 +8,22 @@ use Rattle.std.proofs.lemmas.Bool.{false≢true}
 use Rattle.std.proofs.lemmas.List.{get_or-replicate, get_or_past, length-replicate, set_past}
 use Rattle.std.specs.Prelude.{slice_index_or, slice_set}
 use Rattle.urb_group.specs.GroupViews.{GroupView, IsSound, Shows}
+use Rattle.urb_group.specs.RecoveryPlans.{after}
 use Rattle.urb_group.specs.Step.{Event}
+use Rattle.urb_group.specs.StoreContents.{WouldLeave}
 use Rattle.urb_group.specs.World.{World}
 use Rattle.urb_show.proofs.Prefixes.{prefix_whole}
 use Rattle.urb_show.specs.Houses.{HouseView}
 use Rattle.urb_show.specs.Pasts.{IsLedTo}
 use Rattle.urb_stable.specs.declared.stable.Stable.{Ghosts}
-use Rattle.urb_worker.proofs.OtherNodes.{begins-rest, ends-rest, rested-store, rests-none, rests-on}
+use Rattle.urb_worker.proofs.OtherNodes.{begins-rest, ends-rest, rested-leaves, rested-store}
+use Rattle.urb_worker.proofs.OtherNodes.{rests-none, rests-on}
 use Rattle.urb_worker.proofs.TurnSteps.{whole_keeps}
 use Rattle.urb_worker.specs.Counting.{TallyView, events_in}
 use Rattle.urb_worker.specs.Desks.{events_until}
 use Rattle.urb_worker.specs.Jobs.{runs_at}
 use Rattle.urb_worker.specs.LastLoans.{AllBegin, AllRestSince}
+use Rattle.urb_worker.specs.internal.CountedHouses.{AreLeftSince}
 use Rattle.urb_worker.specs.internal.LoanEnds.{AllRest, IsNextLoan, LoanEnds}
 use Rattle.urb_worker.specs.LastLoans.{RestsSince}
 use Rattle.urb_worker.specs.Loans.{AreLoans, IsLoan, LoanView, LoansView}
@@ -301,3 +305,17 @@ module _ {S A : Type 0} (g : Ghosts S A) (opened : GroupView) (n : ℕ) where
       (whole_keeps g opened n j before after done lent given_back again left begun stored runs same
       count loan sound leads leads_again loaned loans begins stores ends start opening)
       one two h
+
+-- ---- a kill of the process
+
+-- A kill leaves in each store what it may leave of its node, which has rested since its worker's
+-- last loan.
+pub left_since : {S A : Type 0} (g : Ghosts S A) (start : World) (ends : LoanEnds)
+    (past : List Event) (stores : List S) → AllRest ends past → AreLeftSince g start ends stores
+    → WouldLeave g (after start past) stores
+left_since g start ends past stores rest left i store got =
+    let one = left i store got in
+    let rests : HasRested (suc i) one.0 past =
+    subst (λ (o : Option (List Event)). IfSome o (λ end. HasRested (suc i) end past)) one.1
+    (rest i) in
+    rested-leaves g start (suc i) one.0 past store rests one.2

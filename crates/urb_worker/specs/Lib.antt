@@ -9,6 +9,7 @@ pub mod Changes
 pub mod ClientDesks
 pub mod ClientLimits
 pub mod NodeStores
+pub mod KilledStores
 pub mod LastLoans
 pub mod WholeTurns
 pub mod Acts

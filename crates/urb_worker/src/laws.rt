@@ -13,15 +13,17 @@ ghost use Rattle.urb_node.specs.Replies.{Done};
 ghost use Rattle.urb_group.specs.GroupStores.{Clustered};
 ghost use Rattle.urb_group.specs.GroupViews.{GroupView, IsSound, Shows};
 ghost use Rattle.urb_group.specs.Step.{Event};
-ghost use Rattle.urb_group.specs.StoreContents.{IsSecured};
+ghost use Rattle.urb_group.specs.RecoveryPlans.{after};
+ghost use Rattle.urb_group.specs.StoreContents.{IsSecured, WouldLeave};
 ghost use Rattle.urb_group.specs.ProcessStops.{GoesOnIn, MayLeave};
 ghost use Rattle.urb_group.specs.World.{World};
 ghost use Rattle.urb_group.specs.declared.reply.Reply.TheVariants.{Refused, Stored};
 ghost use Rattle.urb_worker.specs.Changes.{HasChanged, change_of};
 ghost use Rattle.urb_worker.specs.Jobs.{runs_at};
 ghost use Rattle.urb_worker.specs.Views.{FinishedView};
+ghost use Rattle.urb_worker.specs.KilledStores.{AreCutAt, IsCutAt};
 ghost use Rattle.urb_worker.specs.NodeStores.{HasRested, IsStoreAfter, LeavesAfter};
-ghost use Rattle.urb_worker.specs.WholeTurns.{IsTurn};
+ghost use Rattle.urb_worker.specs.WholeTurns.{IsTurn, IsTurnAt};
 ghost use Rattle.urb_worker.specs.declared.change.Change.{Change};
 ghost use Rattle.urb_worker.specs.declared.change.Change.TheVariants.{Failed};
 ghost use Rattle.urb_worker.specs.declared.job.Job.{Job};
@@ -92,6 +94,26 @@ pub fn a_store_stays_that_of_its_node<S: Stable<Alloc = Global>>()
         → LeavesAfter S.Stable start earlier n store
         → HasRested n earlier later
         → LeavesAfter S.Stable start later n store }
+{}
+
+/// The process may be killed at any moment of a run. The history so far led to a world. In each
+/// store the kill leaves what it may leave of the world's node, whether the node's worker is idle or
+/// its store works.
+pub fn a_kill_leaves_what_a_stop_may_leave<S: Stable<Alloc = Global>>()
+    ensures idle { (start : World) (last past : List Event) (n : ℕ) (store : S)
+        → IsStoreAfter S.Stable start last n store
+        → HasRested n last past
+        → IsCutAt S.Stable start past n store }
+    ensures working { (opened : GroupView) (start : World) (past : List Event) (n : ℕ) (job : Job)
+        (before after : S) (came : FinishedView)
+        (at : IsTurnAt S.Stable opened n job before after came)
+        → Shows opened start
+        → IsStoreAfter S.Stable start at.turn.lent.past n before
+        → HasRested n at.turn.given_back.past past
+        → IsCutAt S.Stable start past n after }
+    ensures left { (start : World) (past : List Event) (stores : List S)
+        → AreCutAt S.Stable start past stores
+        → WouldLeave S.Stable (after start past) stores }
 {}
 
 /// What a stop of all nodes may leave, node by node, fits together. It opens a group that goes on

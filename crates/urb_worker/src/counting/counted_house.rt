@@ -1,9 +1,12 @@
 //! The value under a Hub's lock: the House, with the book of its events and the last loans.
 
 ghost use Rattle.std.specs.Prelude.{◌≡◌, ◌+◌, ◌-◌, ◌<◌, ◌≤◌, IfOk, IfSome, IsTrue, OnErr, None};
-ghost use Rattle.std.specs.Prelude.{if◌then◌else◌, slice_set, true, vec_len};
+ghost use Rattle.std.specs.Prelude.{if◌then◌else◌, List, slice_set, true, vec_len};
 ghost use Rattle.urb_feed.specs.Feeds.{IsPortion};
 ghost use Rattle.urb_group.specs.GroupViews.{IsSound};
+ghost use Rattle.urb_group.specs.RecoveryPlans.{after};
+ghost use Rattle.urb_group.specs.StoreContents.{WouldLeave};
+ghost use Rattle.urb_group.specs.World.{World};
 ghost use Rattle.urb_show.specs.Pasts.{IsLedTo};
 ghost use Rattle.urb_worker.specs.Counting.{count_after, events_in};
 ghost use Rattle.urb_worker.specs.Jobs.{runs_at};
@@ -12,6 +15,7 @@ ghost use Rattle.urb_worker.specs.NodeFeeds.{BeginsFeed};
 ghost use Rattle.urb_worker.specs.Stages.{is_stored};
 ghost use Rattle.urb_worker.specs.Turns.{Begins, Finishes};
 ghost use Rattle.urb_worker.specs.LastLoans.{AllRestSince};
+ghost use Rattle.urb_worker.specs.internal.CountedHouses.{AreLeftSince};
 ghost use Rattle.urb_worker.specs.internal.LoanEnds.{AllRest, IsNextLoan};
 
 use crate::counting::last_loans::LastLoans;
@@ -25,6 +29,7 @@ use std::sync::ledger::{Book, Share};
 use urb_feed::Feed;
 use urb_names::{NoMemory, NodeId, Packet};
 use urb_show::{House, HouseName, Moment};
+use urb_stable::Stable;
 
 // The House, the total of all tallies, and the share that is left when each worker has its part.
 // The House's count of events is the count with which the Hub began, plus the total. Each node has
@@ -44,7 +49,7 @@ impl<K: HouseName, L: HubName> Model for CountedHouse<K, L> {
 
     ghost Value = { CountedView };
 
-    ghost view = { λ c. record { house = c.house } };
+    ghost view = { λ c. record { house = c.house; last = c.last } };
 
     ghost invariant = { λ c. AllRest c.last c.house.past };
 }
@@ -94,6 +99,20 @@ impl<K: HouseName, L: HubName> CountedHouse<K, L> {
             rest,
             last,
         }
+    }
+
+    // The process may be killed whenever the lock is free, and so in the middle of a store's work. The
+    // past of the House has led to its group. In each store the kill leaves what it may leave of the
+    // node after the whole past, because the node has rested since its worker's last loan. This does
+    // nothing; it is for proofs only.
+    pub(crate) fn recall_kill<S: Stable<Alloc = Global>>(&self)
+        ensures sound { IsSound self.now.house.group }
+        ensures leads { IsLedTo K.origin self.now.house.past self.now.house.group }
+        ensures left { (start : World) (stores : List S)
+            → AreLeftSince S.Stable start self.now.last stores
+            → WouldLeave S.Stable (after start self.now.house.past) stores }
+    {
+        self.house.recall();
     }
 
     // Begins a turn at the worker of a node, and counts its event.

@@ -1,6 +1,7 @@
 use Rattle.std.proofs.Common.{Err, Ok, inl, refl, rules, subst, ◌≡◌}
 use Rattle.urb_worker.proofs.ServedStores.{unserved}
-use Rattle.urb_daemon.proofs.RunsAfterStop.{ends-by-events, ends-opened, ends-without-network}
+use Rattle.urb_daemon.proofs.RunsAfterStop.{as-opened, ends-by-events, ends-opened}
+use Rattle.urb_daemon.proofs.RunsAfterStop.{ends-without-network}
 use Rattle.urb_daemon.proofs.RunsAfterStop.{refused-after-stop, served-after-stop, stops-if-ended}
 use Rattle.urb_daemon.proofs.StoresComeBack.{come_back, come_back_at_once}
 use Rattle.urb_daemon.specs.Runs.{limits_of}
@@ -42,13 +43,15 @@ returns-in-Ok-open_network-clause-ends g c =
     let run = c.run_group_at-stores in
     let same : c.config.result ≡ limits_of c.args.serving = search rules in
     let judged : c.judge_end.result ≡ end_of run.result.1 run.new.watch.is_told = search rules in
-    ends-opened g.S.Stable c.config.result (limits_of c.args.serving) c.args.stores.items
-    call.result.1 c.in-Ok.group call.result.0.items run.result.0.items run.new.watch.is_told
-    c.judge_end.result same c.in-Ok.is call.ensures.opens run.ensures.order
-    (stops-if-ended g.S.Stable c.config.result (limits_of c.args.serving) c.args.stores.items
-    call.result.1 c.in-Ok.group call.result.0.items run.result.0.items run.result.1
-    run.new.watch.is_told c.judge_end.result same c.in-Ok.is call.ensures.secured
-    call.ensures.size run.ensures.whole judged)
+    let from =
+    as-opened g.S.Stable c.config.result (limits_of c.args.serving) c.args.stores.items
+    call.result.1 c.in-Ok.group call.result.0.items same c.in-Ok.is call.ensures.opens in
+    ends-opened g.S.Stable (limits_of c.args.serving) c.args.stores.items c.in-Ok.group
+    call.result.0.items run.result.0.items from run.new.watch.is_told c.judge_end.result
+    run.ensures.order
+    (stops-if-ended g.S.Stable (limits_of c.args.serving) c.args.stores.items c.in-Ok.group
+    call.result.0.items run.result.0.items from run.result.1 run.new.watch.is_told
+    c.judge_end.result run.ensures.whole judged)
     (ends-by-events run.result.1 run.new.watch.is_told c.judge_end.result judged)
 
 pub returns-in-Err-open_network-clause-ends : goal.returns-in-Err-open_network-clause-ends
@@ -56,10 +59,12 @@ returns-in-Err-open_network-clause-ends g c =
     let call = c.open_group-stores in
     let fault = c.in-Err-open_network.fault in
     let same : c.config.result ≡ limits_of c.args.serving = search rules in
-    ends-opened g.S.Stable c.config.result (limits_of c.args.serving) c.args.stores.items
-    call.result.1 c.in-Ok.group call.result.0.items call.result.0.items c.args.console.now.is_told
-    (Err (Network fault)) same c.in-Ok.is call.ensures.opens (unserved g.S.Stable c.in-Ok.group call.result.0.items)
-    (λ known. tt) (ends-without-network fault c.args.console.now.is_told)
+    let from =
+    as-opened g.S.Stable c.config.result (limits_of c.args.serving) c.args.stores.items
+    call.result.1 c.in-Ok.group call.result.0.items same c.in-Ok.is call.ensures.opens in
+    ends-opened g.S.Stable (limits_of c.args.serving) c.args.stores.items c.in-Ok.group
+    call.result.0.items call.result.0.items from c.args.console.now.is_told (Err (Network fault))
+    (unserved g.S.Stable c.in-Ok.group call.result.0.items) (λ known. tt) (ends-without-network fault c.args.console.now.is_told)
 
 pub returns-in-Err-clause-ends : goal.returns-in-Err-clause-ends
 returns-in-Err-clause-ends g c =
@@ -82,13 +87,15 @@ returns-in-Ok-open_network-clause-goes_on g c =
     let run = c.run_group_at-stores in
     let same : c.config.result ≡ limits_of c.args.serving = search rules in
     let judged : c.judge_end.result ≡ end_of run.result.1 run.new.watch.is_told = search rules in
+    let from =
+    as-opened g.S.Stable c.config.result (limits_of c.args.serving) c.args.stores.items
+    call.result.1 c.in-Ok.group call.result.0.items same c.in-Ok.is call.ensures.opens in
     served-after-stop g.S.Stable c.config.result (limits_of c.args.serving) c.args.stores.items
-    call.result.1 c.in-Ok.group call.result.0.items run.result.0.items run.new.watch.is_told
-    c.judge_end.result same c.in-Ok.is call.ensures.opens call.ensures.goes_on run.ensures.order
-    (stops-if-ended g.S.Stable c.config.result (limits_of c.args.serving) c.args.stores.items
-    call.result.1 c.in-Ok.group call.result.0.items run.result.0.items run.result.1
-    run.new.watch.is_told c.judge_end.result same c.in-Ok.is call.ensures.secured
-    call.ensures.size run.ensures.whole judged)
+    call.result.1 c.in-Ok.group call.result.0.items run.result.0.items from run.new.watch.is_told
+    c.judge_end.result same c.in-Ok.is c.recall.ensures.sound call.ensures.goes_on run.ensures.order
+    (stops-if-ended g.S.Stable (limits_of c.args.serving) c.args.stores.items c.in-Ok.group
+    call.result.0.items run.result.0.items from run.result.1 run.new.watch.is_told
+    c.judge_end.result run.ensures.whole judged)
     (ends-by-events run.result.1 run.new.watch.is_told c.judge_end.result judged)
 
 pub returns-in-Err-open_network-clause-goes_on : goal.returns-in-Err-open_network-clause-goes_on
@@ -96,9 +103,13 @@ returns-in-Err-open_network-clause-goes_on g c =
     let call = c.open_group-stores in
     let fault = c.in-Err-open_network.fault in
     let same : c.config.result ≡ limits_of c.args.serving = search rules in
+    let from =
+    as-opened g.S.Stable c.config.result (limits_of c.args.serving) c.args.stores.items
+    call.result.1 c.in-Ok.group call.result.0.items same c.in-Ok.is call.ensures.opens in
     served-after-stop g.S.Stable c.config.result (limits_of c.args.serving) c.args.stores.items
-    call.result.1 c.in-Ok.group call.result.0.items call.result.0.items c.args.console.now.is_told
-    (Err (Network fault)) same c.in-Ok.is call.ensures.opens call.ensures.goes_on
+    call.result.1 c.in-Ok.group call.result.0.items call.result.0.items from
+    c.args.console.now.is_told (Err (Network fault)) same c.in-Ok.is c.recall.ensures.sound
+    call.ensures.goes_on
     (unserved g.S.Stable c.in-Ok.group call.result.0.items)
     (λ known. tt) (ends-without-network fault c.args.console.now.is_told)
 

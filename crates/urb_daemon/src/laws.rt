@@ -1,0 +1,55 @@
+//! The laws about a group over any number of starts. Each law is the contract of a function that
+//! does nothing.
+
+ghost use Rattle.std.specs.Prelude.{◌≡◌, ◌<◌, ◌≤◌, IsTrue, List, Some, [], length, slice_get, suc, ℕ};
+ghost use Rattle.sqlite.specs.Files.{file_state};
+ghost use Rattle.sqlite_wal.specs.Recovery.{Image};
+ghost use Rattle.urb_names.specs.LabelsAndContents.{Content, Label, Limits};
+ghost use Rattle.urb_names.specs.ListPrefixes.{Begins};
+ghost use Rattle.urb_names.specs.Nodes.{is_node};
+ghost use Rattle.urb_node.specs.Replies.{Same};
+ghost use Rattle.urb_node.specs.declared.answer.Answer.TheVariants.{Accepted};
+ghost use Rattle.urb_stable.specs.DeliveredLogs.{entries};
+ghost use Rattle.urb_stable.specs.Entries.{Entry};
+ghost use Rattle.urb_group.specs.Acceptance.{HasStored};
+ghost use Rattle.urb_group.specs.GroupViews.{GroupView, IsSound, Shows};
+ghost use Rattle.urb_group.specs.Step.{Submit, step};
+ghost use Rattle.urb_group.specs.StoreContents.{WouldLeave};
+ghost use Rattle.urb_group.specs.World.{World, image_of, opened, stored};
+ghost use Rattle.urb_sqlite.specs.FoundJournals.{HoldsRecords};
+ghost use Rattle.urb_folder.specs.StoppedFiles.{HasLeft, HoldsStopped};
+ghost use Rattle.urb_daemon.specs.Lives.{Lives, OpensAfter};
+
+use urb_folder::{Journal, NodeDisk};
+use urb_stable::Stable;
+
+/// Nothing is lost over any number of starts, whenever the process was killed in between. What a
+/// node has stored as its own stays stored under its name, and what it has shown stays shown. At each
+/// start, a message that was stored before is accepted again under its name.
+pub fn nothing_is_lost_over_any_number_of_starts()
+    ensures shown { (old : GroupView) (w v : World) (p : ℕ) →
+        IsSound old → Shows old w → Lives w v →
+        Begins (entries (stored w p)) (entries (stored v p)) }
+    ensures stays { (old : GroupView) (w v : World) (p : ℕ) (x : Label) (m : Content) →
+        IsSound old → Shows old w → Lives w v → HasStored w p x m → HasStored v p x m }
+    ensures again { (old : GroupView) (w v : World) (size : Limits) (images : List (List Entry))
+        (group : GroupView) (p : ℕ) (x : Label) (m : Content) →
+        IsSound old → Shows old w → Lives w v → OpensAfter v size images group →
+        IsTrue (is_node v.size.n p) → HasStored w p x m →
+        (step (opened size (image_of images)) (Submit p m)).0 ≡ Same (Accepted x) }
+{}
+
+/// What a stop leaves is what the next start takes. The process stopped in a world that its group
+/// showed, and the files of each node hold a database that the stop may have left of its journal. A
+/// node that is new at the next start has no record in its files.
+pub fn a_stop_leaves_what_the_next_start_takes<D: NodeDisk>(journals: &[Journal<D>])
+    ensures { (held : ℕ → Image) (old : GroupView) (w : World) (size : Limits) →
+        IsSound old → length old.nodes ≡ old.size.n → old.size.n ≤ size.n → Shows old w →
+        length old.nodes ≤ length journals.now →
+        WouldLeave ⟦<Journal<D> as Stable>⟧ w journals.now →
+        ((i : ℕ) (j : _) → slice_get journals.now i ≡ Some j →
+        HoldsStopped (⟦<Journal<D> as Stable>⟧.is_clean j)
+        (file_state j.journal.conn).may_leave (held (suc i))) →
+        ((i : ℕ) → length journals.now ≤ i → i < size.n → HoldsRecords (held (suc i)) []) →
+        HasLeft held old w size }
+{}

@@ -1,0 +1,122 @@
+-- Journals that were opened in the files that a stop had left.
+use Rattle.std.proofs.Common.{List, None, Option, Some, [], ap, arith, inl, length, refl, subst}
+use Rattle.std.proofs.Common.{suc, sym, ⊎_elim, ℕ, ◌<◌, ◌∙◌, ◌∷◌, ◌≡◌, ◌≤◌}
+use Rattle.std.specs.List.{All}
+use Rattle.std.specs.Prelude.{slice_get}
+use Rattle.std.proofs.lemmas.Bool.{cases_lt}
+use Rattle.std.proofs.lemmas.List.{get_or_past}
+use Rattle.std.proofs.lemmas.Option.{get_or_from_slice_get, slice_get_within}
+use Rattle.sqlite.specs.Files.{HoldsDatabase}
+use Rattle.sqlite_trees.specs.Tree.{Trees}
+use Rattle.sqlite_wal.specs.Recovery.{Image}
+use Rattle.urb_names.proofs.Places.{get_some}
+use Rattle.urb_names.specs.LabelsAndContents.{Limits}
+use Rattle.urb_stable.specs.Entries.{Entry}
+use Rattle.urb_stable.specs.StableStorage.{IsContents}
+use Rattle.urb_stable.specs.declared.stable.Stable.{Ghosts}
+use Rattle.urb_node.specs.NodeViews.{NodeView, no_view}
+use Rattle.urb_node.specs.Part.{State}
+use Rattle.urb_node.specs.Steps.{doubt}
+use Rattle.urb_group.specs.GroupViews.{GroupView, IsSound, Shows, view_of}
+use Rattle.urb_group.specs.ProcessStops.{MayLeave}
+use Rattle.urb_group.specs.StoreContents.{IsKnown, WouldLeave}
+use Rattle.urb_group.specs.StoreOpenings.{HasStopped}
+use Rattle.urb_group.specs.World.{World}
+use Rattle.urb_sqlite.proofs.FoundRecords.{found_as_held}
+use Rattle.urb_sqlite.specs.FoundJournals.{AreFoundIn, HoldsRecords}
+use Rattle.urb_folder.specs.StoppedFiles.{HasLeft, HoldsNode, HoldsStopped}
+
+-- The journals' storages are clean while they are honest, and no record is in doubt.
+module _ {S A : Type 0} (g : Ghosts S A) (cleans : (j : S) → g.is_honest j → g.is_clean j)
+    (sure : (j : S) → g.doubt j ≡ None) (held : ℕ → Image) (old : GroupView) (w : World)
+    (limits : Limits) (journals : List S) (count : length journals ≡ limits.n)
+    (found : AreFoundIn g held journals) (left : HasLeft held old w limits) where
+  -- there is such a place
+  low : (i : ℕ) (journal : S) → slice_get journals i ≡ Some journal → i < limits.n
+  low i journal got =
+      let below = slice_get_within journals i journal got in
+      omega (arith, below, count)
+
+  -- a clean journal is honest, and holds what the stop left
+  one : (i : ℕ) (journal : S) (got : slice_get journals i ≡ Some journal) → g.is_clean journal
+      → g.is_honest journal × (g.certain journal ≡ (left.holds i (low i journal got)).0)
+  one i journal got clean =
+      let holds = left.holds i (low i journal got) in
+      found_as_held (held (suc i)) (g.is_clean journal) (g.is_honest journal) (g.certain journal)
+      holds.0 (found i journal got) holds.2 clean
+
+  -- the journals hold what the stop left
+  pub stopped_files : HasStopped g old w limits journals
+  stopped_files =
+      record {
+        sound = left.sound;
+        counted = left.counted;
+        nodes = left.nodes;
+        shows = left.shows;
+        holds = λ i journal got honest records contents.
+            (let it = one i journal got (cleans journal honest) in
+            let certain : records ≡ g.certain journal =
+            subst (λ (o : Option Entry). IsContents (g.certain journal) o records) (sure journal)
+            contents in
+            subst (λ (rs : List Entry). MayLeave (w.node (suc i)) rs) (sym (certain ∙ it.1))
+            (left.holds i (low i journal got)).1);
+      }
+
+  -- each of them is honest as long as its disk returns what was written
+  pub known_files : All (IsKnown g) journals
+  known_files = λ k d below.
+      (let place = get_some journals k below in
+      subst (λ (j : S). IsKnown g j) (sym (get_or_from_slice_get journals k place.0 d place.1))
+      (λ clean. inl (one k place.0 place.1 clean).0))
+
+-- ---- the files that a stop left
+
+-- a node that the group has no place for has stored nothing
+no-place : (group : GroupView) (w : World) (p : ℕ) → Shows group w → view_of group p ≡ no_view
+    → MayLeave (w.node p) []
+no-place group w p shows none = at ((w.node p).records) refl
+  where
+    at : (records : List Entry) → (w.node p).records ≡ records → MayLeave (w.node p) []
+    at [] e =
+        subst (λ (s : State). IsContents (w.node p).records (doubt s) [])
+        (ap (λ (v : NodeView). v.state) (sym none) ∙ (shows.nodes p).state) (sym e)
+    at (r ∷ records) e =
+        (let count : 0 ≡ suc (length records) =
+        ap (λ (v : NodeView). v.count) (sym none) ∙ ((shows.nodes p).count ∙ ap length e) in
+        absurd (omega (arith, count)))
+
+-- Each file holds what a stop may leave of its node. What a stop left of a store, and the files
+-- hold, has the records that the store would leave.
+pub left_files : {S A : Type 0} (g : Ghosts S A) (may_leave : S → Trees → Type 0)
+    (leaves : (j : S) (P : List Entry → Type 0) → g.leaves_only j P → (image : Image) (db : Trees)
+    → may_leave j db → HoldsDatabase image db
+    → (records : List Entry) × P records × HoldsRecords image records)
+    (held : ℕ → Image) (old : GroupView) (w : World) (limits : Limits) (journals : List S)
+    → IsSound old → length old.nodes ≡ old.size.n → old.size.n ≤ limits.n → Shows old w
+    → length old.nodes ≤ length journals → WouldLeave g w journals
+    → ((i : ℕ) (j : S) → slice_get journals i ≡ Some j
+    → HoldsStopped (g.is_clean j) (may_leave j) (held (suc i)))
+    → ((i : ℕ) → length journals ≤ i → i < limits.n → HoldsRecords (held (suc i)) [])
+    → HasLeft held old w limits
+left_files {S} g may_leave leaves held old w limits journals sound counted nodes shows places would
+    stopped none =
+    record { sound = sound; counted = counted; nodes = nodes; shows = shows; holds = holds }
+  where
+    holds : (i : ℕ) → i < limits.n → HoldsNode (held (suc i)) (w.node (suc i))
+    holds i low = ⊎_elim within past (cases_lt i (length journals))
+      where
+        within : i < length journals → HoldsNode (held (suc i)) (w.node (suc i))
+        within less =
+            let j = get_some journals i less in
+            let it = stopped i j.0 j.1 in
+            let of = would i j.0 j.1 it.clean in
+            let has =
+            leaves j.0 (IsContents of.certain of.doubtful) of.only (held (suc i)) it.db it.may
+            it.holds in
+            (has.0, of.may has.0 has.1, has.2)
+
+        past : length journals ≤ i → HoldsNode (held (suc i)) (w.node (suc i))
+        past more =
+            let beyond : length old.nodes ≤ i = omega (arith, places, more) in
+            let view : view_of old (suc i) ≡ no_view = get_or_past old.nodes i no_view beyond in
+            ([], no-place old w (suc i) shows view, none i more low)
