@@ -19,7 +19,9 @@ import tempfile
 from collections.abc import Sequence
 from pathlib import Path
 
-PAYLOADS = (16, 1_024, 16_384)  # bytes
+from urbd.constants import MAX_PAYLOAD
+
+PAYLOADS = (16, 1_024, MAX_PAYLOAD)  # bytes
 ARRIVALS = 100_000
 RUNS = 3
 

@@ -18,12 +18,13 @@ from bench.beside import dropped_datagrams, processor_time, share_of_processor
 from bench.groups import LIMIT, megabytes, new_folder, new_group, running
 from bench.load import Load, Run, answers
 from trials.lib.program import Daemon, Options, Program, all_ports, free_base_port, ports_of
+from urbd.constants import MAX_PAYLOAD
 from urbd.frames import Status
 from urbd.node import Connection
 
 NODES = 3
 CLIENTS = 4  # at each node
-BURSTS = ((20_000, 100), (2_000, 16_384))  # messages and their bytes
+BURSTS = ((20_000, 100), (2_000, MAX_PAYLOAD))  # messages and their bytes
 LENGTH = 100  # bytes of other messages
 LONGEST = 120.0  # seconds that a burst, or what follows it, may take
 KILLED = 3.0  # seconds under load before a kill

@@ -37,10 +37,11 @@ from bench.groups import (
     submit_all,
 )
 from trials.lib.program import Daemon, Options, Program, free_base_port
+from urbd.constants import MAX_NODES, MAX_PAYLOAD
 
-NODES = (1, 3, 7)
+NODES = (1, 3, MAX_NODES)
 # How many messages of each length are measured. Half as many come before them.
-MESSAGES = {16: 20_000, 100: 20_000, 1_024: 8_000, 16_384: 2_000}
+MESSAGES = {16: 20_000, 100: 20_000, 1_024: 8_000, MAX_PAYLOAD: 2_000}
 STARTED = 3  # nodes that are started again
 UNDER_WAY = 16  # requests at a time: few, so that no socket's room overflows
 TICK = 50  # milliseconds

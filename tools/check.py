@@ -23,6 +23,8 @@ from tools.checks import (
     outlets,
     prose,
     sources,
+    types,
+    written,
 )
 from tools.tree import Misfit, Tree
 
@@ -76,6 +78,8 @@ CHECKS: tuple[Callable[[Tree], Iterable[Misfit]], ...] = (
     names.clauses_of_decisions,
     limits.limits_of_architecture,
     limits.stated_limits,
+    written.written_limits,
+    types.names_of_types,
     memory.refusals_from_nothing,
     files.changes_of_files,
     outlets.sends_and_reports,

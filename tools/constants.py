@@ -1,11 +1,12 @@
 #!/usr/bin/env python3
-"""Makes the constants of the Python and Go clients from those of the program.
+"""Makes the constants of the Python and Go clients and of `urbdctl` from those of the program.
 
-    tools/constants.py           writes both files
+    tools/constants.py           writes the files
     tools/constants.py --check   compares them, prints each that differs, and ends with status 1
 
 The limits, opcodes, codes, refusals and ports are written once, in the sources of the program. This
-tool reads them there, so a client never has a number of its own."""
+tool reads them there, so a client never has a number of its own. `urbdctl` reads journals, so it
+has their limits besides."""
 from __future__ import annotations
 
 import argparse
@@ -22,8 +23,10 @@ SOURCES = (
     "crates/urb_cli/src/limits.rt",
 )
 REFUSALS = "crates/urb_names/src/refusal.rt"
+TABLES = "crates/urb_sqlite/src/sql.rt"
 PYTHON = "clients/python/src/urbd/constants.py"
 GO = "clients/go/constants.go"
+JOURNALS = "contrib/ctl/urbdctl/limits.py"
 
 CONSTANT = re.compile(r"(pub )?const ([A-Z][A-Z0-9_]*): \w+ = ([^;]*);")
 NUMBER = re.compile(r"Refusal::(\w+)[^=]*=> (\d+),")
@@ -138,6 +141,22 @@ def spaced(name: str) -> str:
     return re.sub(r"(?<=[a-z])(?=[A-Z])", "_", name).upper()
 
 
+def python_lines(constants: list[Constant]) -> list[str]:
+    """The constants in Python, each under its sentence."""
+    return [
+        line
+        for constant in constants
+        for line in (f"# {constant.sentence}", f"{constant.name} = {constant.value}", "")
+    ]
+
+
+def journals_text(constants: list[Constant]) -> str:
+    """The module of `urbdctl`."""
+    head = '"""The limits of the tables of a journal, written by `tools/constants.py`."""'
+    lines = [head, "from __future__ import annotations", "", *python_lines(constants)]
+    return "\n".join(lines[:-1]) + "\n"
+
+
 def python_text(constants: list[Constant], refusals: list[RefusalKind]) -> str:
     """The module of the Python client."""
     lines = [
@@ -146,9 +165,8 @@ def python_text(constants: list[Constant], refusals: list[RefusalKind]) -> str:
         "",
         "from enum import IntEnum",
         "",
+        *python_lines(constants),
     ]
-    for constant in constants:
-        lines += [f"# {constant.sentence}", f"{constant.name} = {constant.value}", ""]
     lines += [
         "",
         "class Refusal(IntEnum):",
@@ -203,7 +221,11 @@ def generated(top: Path) -> dict[str, str]:
     """The text of each generated file, by its name."""
     constants = constants_of([(top / name).read_text() for name in SOURCES])
     refusals = refusals_of((top / REFUSALS).read_text())
-    return {PYTHON: python_text(constants, refusals), GO: go_text(constants, refusals)}
+    return {
+        PYTHON: python_text(constants, refusals),
+        GO: go_text(constants, refusals),
+        JOURNALS: journals_text(constants_of([(top / TABLES).read_text()])),
+    }
 
 
 def stale(top: Path) -> list[str]:

@@ -85,7 +85,7 @@ TRIALS = (
     long("verdicts", "a check of journals and a start answer the same", needs=["SQLite 3.37"]),
     long("service", "the service unit and urbd-run"),
     long("full_pipe", "a standard error that nobody reads"),
-    long("heavy_load", "five and seven nodes under as much load as twelve clients make"),
+    long("heavy_load", "five nodes, and the most, under as much load as twelve clients make"),
     long("looks", "what is told of a running group"),
     long("backups", "copies of a running group under load", needs=["SQLite 3.37"]),
     long("clients", "publishers and followers that are killed", "--seconds", "12"),

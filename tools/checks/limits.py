@@ -18,6 +18,7 @@ ACTS: dict[type, Callable[[int, int], int]] = {
     ast.Add: operator.add,
     ast.Sub: operator.sub,
     ast.Mult: operator.mul,
+    ast.Div: operator.floordiv,
     ast.LShift: operator.lshift,
 }
 

@@ -84,10 +84,11 @@ class OfConstants(unittest.TestCase):
 
     def test_a_file_that_differs_is_named(self) -> None:
         with tempfile.TemporaryDirectory() as folder:
-            for name in [*constants.SOURCES, constants.REFUSALS, constants.PYTHON]:
+            copied = [constants.REFUSALS, constants.TABLES, constants.PYTHON]
+            for name in [*constants.SOURCES, *copied]:
                 (Path(folder) / name).parent.mkdir(parents=True, exist_ok=True)
                 (Path(folder) / name).write_text((constants.TOP / name).read_text())
-            self.assertEqual(constants.stale(Path(folder)), [constants.GO])
+            self.assertEqual(constants.stale(Path(folder)), [constants.GO, constants.JOURNALS])
 
 
 if __name__ == "__main__":

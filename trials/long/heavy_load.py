@@ -1,4 +1,4 @@
-"""Twelve clients submit as much as they can, and a group of five or seven nodes keeps its speed.
+"""Twelve clients submit as much as they can, and a group of five or of most nodes keeps its speed.
 
 Each client has many requests under way. In the last two seconds the group has to accept at least a
 fifth as many messages as in the first two. All logs have to become whole soon after the load.
@@ -10,6 +10,8 @@ import sys
 import time
 from pathlib import Path
 
+from urbd.constants import MAX_NODES
+
 from bench.recovery import Load, lacks_of
 from trials.lib.command import parser_of, run_trial
 from trials.lib.program import Options, Program, free_base_port, wait_until
@@ -18,7 +20,7 @@ SPAN = 2.0  # seconds
 SPANS = 5
 SHARE = 0.2  # of the first span's messages, at least, in the last span
 LIMIT = 60.0  # seconds until all logs are whole
-SIZES = (5, 7)
+SIZES = (5, MAX_NODES)
 
 
 def counts_under_load(program: Program, options: Options) -> list[int]:

@@ -29,6 +29,7 @@ from urbd.constants import (
     Refusal,
 )
 from urbd.frames import Refused, Submit, encode_request, encode_response, frame
+from urbdctl.limits import LONGEST_IN_SECOND
 
 from trials.lib.command import parser_of, run_trial
 from trials.lib.messages import log_of
@@ -51,7 +52,7 @@ PACKET = bytes.fromhex("55420101020100000001000700000001000161")
 LONG_PACKET = bytes.fromhex("5542020102000100000001000700000001") + struct.pack(">H", MAX_PAYLOAD)
 # Each length up to twice version 1's limit, lengths near that of the longest packet and near what a
 # node reads, and a datagram's greatest.
-LENGTHS = (*range(2101), *range(16_380, 16_660), 65_507)
+LENGTHS = (*range(2101), *range(MAX_PAYLOAD - 4, LONGEST_REQUEST + 60), 65_507)
 MOST_GROWTH = 20_000_000  # bytes that a second round of everything may take
 
 
@@ -251,7 +252,7 @@ def is_refused(program: Program, options: Options, text: bytes, what: str) -> No
 DAMAGES = (
     ("UPDATE journal2 SET kind = 4 WHERE pos = 1", b"refused 17 1", "a row that is no record"),
     (
-        "UPDATE journal2 SET payload = zeroblob(16385) WHERE pos = 1",
+        f"UPDATE journal2 SET payload = zeroblob({LONGEST_IN_SECOND + 1}) WHERE pos = 1",
         b"refused 17 1",
         "a payload that is too long",
     ),

@@ -17,9 +17,10 @@ from collections.abc import Iterable, Mapping, Sequence
 from dataclasses import replace
 from pathlib import Path
 
-from urbd.constants import MAX_PAYLOAD, MAX_PLAIN_PAYLOAD, Refusal
+from urbd.constants import MAX_PAYLOAD, Refusal
 from urbd.frames import Accepted, Entry, Refused, Submit
 from urbdctl.journals import CERT, CREATE, PEND, PEND_CERT, Name, Row
+from urbdctl.limits import LONGEST_IN_FIRST, LONGEST_IN_SECOND
 from urbdctl_tests.journal_files import Statement
 
 from trials.lib.command import parser_of, run_trial
@@ -34,14 +35,14 @@ TABLES = {"journal", "journal2"}
 def old_messages() -> dict[Name, Entry]:
     """The old messages. Node 1's have the shortest and the longest payload of that time."""
     of_one = [Entry(1, seq, 7, seq, b"%d of node 1 " % seq * seq) for seq in range(1, 21)]
-    of_one += [Entry(1, 21, 7, 21, b""), Entry(1, 22, 7, 22, b"x" * MAX_PLAIN_PAYLOAD)]
+    of_one += [Entry(1, 21, 7, 21, b""), Entry(1, 22, 7, 22, b"x" * LONGEST_IN_FIRST)]
     of_two = [Entry(2, seq, 8, seq, b"%d of node 2" % seq) for seq in range(1, 4)]
     return {(it.sender, it.seq): it for it in of_one + of_two}
 
 
 MESSAGES = old_messages()
 # The lengths of the payloads of new messages.
-LENGTHS = (0, 1, MAX_PLAIN_PAYLOAD, MAX_PLAIN_PAYLOAD + 1, *[MAX_PAYLOAD] * 4)
+LENGTHS = (0, 1, LONGEST_IN_FIRST, LONGEST_IN_FIRST + 1, *[MAX_PAYLOAD] * 4)
 # How many entries each read has from the last five on: three of the longest fit a response.
 PAGES = [3, 1, 0]
 Record = tuple[int, Name]  # a kind, and the name of a message
@@ -249,7 +250,7 @@ def tells_the_first_node(program: Program, folder: Path) -> None:
 def refuses_bad_rows(program: Program, room: Path) -> None:
     """For a bad row of an old file, the fault names its place, and the file stays. With the good
     file the group opens."""
-    longer = f"UPDATE journal SET payload = zeroblob({MAX_PLAIN_PAYLOAD + 1}) WHERE pos = 22"
+    longer = f"UPDATE journal SET payload = zeroblob({LONGEST_IN_FIRST + 1}) WHERE pos = 22"
     for name, node, statement, place in (
         ("kind", 1, "UPDATE journal SET kind = 4 WHERE pos = 2", 2),
         ("payload", 2, longer, 22),
@@ -281,8 +282,8 @@ def refuses_what_does_not_fit(program: Program, whole: Path) -> None:
     longer = "UPDATE {} SET payload = zeroblob({}) WHERE pos = {}".format
     older = f"INSERT INTO journal VALUES({end + 1}, 1, 1, 23, 7, 23, x'')"
     cases = {
-        "too-long-1": ([longer("journal", MAX_PLAIN_PAYLOAD + 1, 1)], "17 1"),
-        "too-long-2": ([longer("journal2", MAX_PAYLOAD + 1, end + 1)], f"17 {end + 1}"),
+        "too-long-1": ([longer("journal", LONGEST_IN_FIRST + 1, 1)], "17 1"),
+        "too-long-2": ([longer("journal2", LONGEST_IN_SECOND + 1, end + 1)], f"17 {end + 1}"),
         "gap": (["UPDATE journal2 SET pos = pos + 1000"], f"17 {end + 1}"),
         "an-older-program-went-on": ([older], f"17 {end + 2}"),
         "another-table": (["DROP TABLE journal2", "CREATE TABLE journal2(x INTEGER)"], "15 0"),

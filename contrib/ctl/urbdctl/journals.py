@@ -16,12 +16,13 @@ from dataclasses import dataclass
 from pathlib import Path
 from typing import Optional
 
-from urbd.constants import MAX_NODES, MAX_PAYLOAD, MAX_PLAIN_PAYLOAD, Refusal
+from urbd.constants import MAX_NODES, Refusal
 from urbdctl.holders import holder_of
+from urbdctl.limits import LONGEST_IN_FIRST, LONGEST_IN_SECOND
 
 PEND, PEND_CERT, CERT = 1, 2, 3
 KINDS = {PEND: "Pend", PEND_CERT: "PendCert", CERT: "Cert"}
-LONGEST = {"journal": MAX_PLAIN_PAYLOAD, "journal2": MAX_PAYLOAD}  # bytes of a payload, by table
+LONGEST = {"journal": LONGEST_IN_FIRST, "journal2": LONGEST_IN_SECOND}  # bytes of a payload
 MOST_CLIENT, MOST_NUMBER = (1 << 16) - 1, (1 << 32) - 1
 CREATE = (
     "CREATE TABLE {}(pos INTEGER PRIMARY KEY, kind INTEGER NOT NULL, sender INTEGER NOT NULL, "

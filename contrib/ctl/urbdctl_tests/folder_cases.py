@@ -3,6 +3,7 @@
 from __future__ import annotations
 
 from urbdctl.journals import CERT, PEND, PEND_CERT
+from urbdctl.limits import LONGEST_IN_FIRST, LONGEST_IN_SECOND
 from urbdctl_tests.file_cases import FILE_CASES
 from urbdctl_tests.folder_makers import (
     DELIVERED,
@@ -223,32 +224,34 @@ CASES: list[Case] = [
         "its pos is 3, and its place 2",
     ),
     Case(
-        "a payload of 16,384 bytes",
-        images([record(PEND_CERT, "1.1", payload=bytes(16384))]),
+        "the longest payload of the second table",
+        images([record(PEND_CERT, "1.1", payload=bytes(LONGEST_IN_SECOND))]),
         1,
         10,
         "open 1",
         "a log of 1",
     ),
     Case(
-        "a payload of 16,385 bytes",
-        images([record(PEND_CERT, "1.1", payload=bytes(16385))]),
+        "a byte more",
+        images([record(PEND_CERT, "1.1", payload=bytes(LONGEST_IN_SECOND + 1))]),
         1,
         10,
         "refused 17 1",
-        "16385 bytes is over 16384",
+        f"{LONGEST_IN_SECOND + 1} bytes is over {LONGEST_IN_SECOND}",
     ),
     Case(
-        "1,024 bytes in the first table",
-        then(images([]), added("journal", 1, PEND_CERT, "1.1", payload=bytes(1024))),
+        "the longest payload of the first table",
+        then(images([]), added("journal", 1, PEND_CERT, "1.1", payload=bytes(LONGEST_IN_FIRST))),
         1,
         10,
         "open 1",
         "a log of 1",
     ),
     Case(
-        "1,025 bytes in the first table",
-        then(images([]), added("journal", 1, PEND_CERT, "1.1", payload=bytes(1025))),
+        "a byte more in the first table",
+        then(
+            images([]), added("journal", 1, PEND_CERT, "1.1", payload=bytes(LONGEST_IN_FIRST + 1))
+        ),
         1,
         10,
         "refused 17 1",

@@ -11,13 +11,13 @@ use Rattle.urb_cli.specs.declared.command_line.task.Errand.{Errand}
 use Rattle.urb_cli.specs.declared.command_line.task.Errand.TheVariants as errand
 use Rattle.urb_client.specs.declared.response_receiver.ResponseFault.{ResponseFault}
 use Rattle.urb_client.specs.declared.response_receiver.ResponseFault.TheVariants as response
-use Rattle.urb_script.specs.declared.runs.Ended.{Ended}
-use Rattle.urb_script.specs.declared.runs.Ended.TheVariants.{Whole, BadLine}
+use Rattle.urb_script.specs.declared.runs.RunEnd.{RunEnd}
+use Rattle.urb_script.specs.declared.runs.RunEnd.TheVariants.{Whole, BadLine}
 use Rattle.urb_script.specs.declared.runs.RunFault.{RunFault}
 use Rattle.urb_script.specs.declared.runs.RunFault.TheVariants.{Read, Write, NoMemory}
 
 -- 0 for a script that is whole, 2 for one with a bad line, 1 for a fault
-abbrev pub status_of : Result Ended RunFault → ℕ
+abbrev pub status_of : Result RunEnd RunFault → ℕ
 status_of (Ok Whole) = 0
 status_of (Ok (BadLine line)) = 2
 status_of (Err broken) = 1

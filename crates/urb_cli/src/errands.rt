@@ -12,19 +12,19 @@ use crate::faults::{Fault, report_fault};
 use crate::script::replay;
 use std::net::{Net, TcpListener, TcpStream};
 use std::time::Clock;
-use urb_script::{Ended, RunFault};
+use urb_script::{RunEnd, RunFault};
 
 /// The status of a script with a bad line.
 const BAD_LINE: u8 = 2;
 
 /// Reports the fault that stopped the run of a script, if any, and returns the program's status. It
 /// is 0 for a whole script, 2 for a script with a bad line, and 1 for a fault.
-pub fn report_script_end<R: Eprint>(rt: &R, outcome: Result<Ended, RunFault>) -> u8
+pub fn report_script_end<R: Eprint>(rt: &R, outcome: Result<RunEnd, RunFault>) -> u8
     ensures { result ≡ status_of outcome }
 {
     match outcome {
-        Ok(Ended::Whole) => 0,
-        Ok(Ended::BadLine(_)) => BAD_LINE,
+        Ok(RunEnd::Whole) => 0,
+        Ok(RunEnd::BadLine(_)) => BAD_LINE,
         Err(fault) => report_fault(rt, Fault::from(fault)),
     }
 }

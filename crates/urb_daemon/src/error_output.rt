@@ -1,7 +1,7 @@
 //! Standard error behind a thread of its own. A line never makes its writer wait, also if nobody
 //! reads standard error.
 
-use crate::stage::{SharedStage, Stage, StageReports, Waited};
+use crate::stage::{ProgramStage, SharedStage, StageReports, Waited};
 use crossbeam_channel::{Receiver, RecvTimeoutError, Sender};
 use std::alloc::{AllocError, Global};
 use std::fmt::Display;
@@ -126,7 +126,7 @@ impl<R: Wait> Eprint for ErrorOutput<R> {
 }
 
 impl<R: Wait> StageReports for ErrorOutput<R> {
-    fn reach(&self, stage: Stage) {
+    fn reach(&self, stage: ProgramStage) {
         if self.stage.set(stage) {
             // The thread waits for a text, so an empty one wakes it.
             let text = Text {

@@ -51,5 +51,5 @@ pub use serve_fault::{ServeFault, fault_of_serve, report_serve_fault};
 pub use socket_fault::{SocketCause, judge_making, judge_probe};
 pub use socket_files::{MAX_SOCKET_PATH, make_socket_path, open_socket, remove_sockets};
 pub use sockets::{Network, open_link, open_network};
-pub use stage::{Stage, StageReports};
+pub use stage::{ProgramStage, StageReports};
 pub use standard_streams::Streams;

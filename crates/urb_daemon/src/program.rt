@@ -12,7 +12,7 @@ use crate::opening_fault::report_folder_fault;
 use crate::prompted_input::PromptedInput;
 use crate::reports::Reports;
 use crate::run::{Host, report_end, run_journals};
-use crate::stage::{RunInput, Stage, StageReports};
+use crate::stage::{ProgramStage, RunInput, StageReports};
 use crate::standard_streams::Streams;
 use crate::surroundings::Surroundings;
 use std::convert::AsStr;
@@ -53,9 +53,9 @@ where
     let mut input = RunInput { input, errors };
     let mut console = Console::new(output, &mut input);
     let (journals, ended) = run_journals(rt, alloc, serving, journals, &reports, &mut console);
-    errors.reach(Stage::Files);
+    errors.reach(ProgramStage::Files);
     close_journals(files, serving.dir, journals);
-    errors.reach(Stage::Quiet);
+    errors.reach(ProgramStage::Quiet);
     report_end(output, errors, ended)
 }
 
@@ -86,14 +86,14 @@ where
         (limits_of serving.entry) (W.contents output.old) (W.contents output.new) result }
 {
     let (dir, nodes) = (serving.dir, serving.nodes);
-    errors.reach(Stage::Journals);
+    errors.reach(ProgramStage::Journals);
     match open_journals::<D, R>(rt, files, dir, nodes, claim) {
         Ok(journals) => {
-            errors.reach(Stage::Records);
+            errors.reach(ProgramStage::Records);
             run_folder(rt, files, output, input, errors, serving, journals)
         }
         Err(why) => {
-            errors.reach(Stage::Quiet);
+            errors.reach(ProgramStage::Quiet);
             report_folder_fault(rt, files, errors, serving, why)
         }
     }

@@ -8,7 +8,7 @@ use std::sync::atomic::{AtomicU64, Ordering};
 
 /// What the program does.
 #[derive(Clone, Copy, Debug, PartialEq, Eq)]
-pub enum Stage {
+pub enum ProgramStage {
     /// It starts, and opens the journals of the folder.
     Journals,
     /// It starts, and opens the group from the records of the journals.
@@ -24,7 +24,7 @@ pub enum Stage {
 /// An output for errors that says how far a start or a stop is, if it takes long.
 pub trait StageReports {
     /// Notes what the program does from now on.
-    fn reach(&self, stage: Stage);
+    fn reach(&self, stage: ProgramStage);
 }
 
 /// What somebody waits for.
@@ -101,13 +101,13 @@ impl SharedStage {
     }
 
     /// Sets the stage, and says whether a start or a stop begins by that.
-    pub(crate) fn set(&self, stage: Stage) -> bool {
+    pub(crate) fn set(&self, stage: ProgramStage) -> bool {
         let number = match stage {
-            Stage::Journals => JOURNALS,
-            Stage::Records => RECORDS,
-            Stage::Quiet => QUIET,
-            Stage::Sessions => SESSIONS,
-            Stage::Files => FILES,
+            ProgramStage::Journals => JOURNALS,
+            ProgramStage::Records => RECORDS,
+            ProgramStage::Quiet => QUIET,
+            ProgramStage::Sessions => SESSIONS,
+            ProgramStage::Files => FILES,
         };
         self.number.swap(number, Ordering::SeqCst) == QUIET && number != QUIET
     }
@@ -134,10 +134,10 @@ pub(crate) struct RunInput<'a, I: Read + Drop, E: StageReports> {
 
 impl<I: Read + Drop, E: StageReports> Read for RunInput<'_, I, E> {
     fn read(&mut self, buf: &mut [u8]) -> io::Result<usize> {
-        self.errors.reach(Stage::Quiet);
+        self.errors.reach(ProgramStage::Quiet);
         let outcome = self.input.read(buf);
         if !matches!(outcome, Ok(1..)) {
-            self.errors.reach(Stage::Sessions);
+            self.errors.reach(ProgramStage::Sessions);
         }
         outcome
     }

@@ -24,7 +24,7 @@ const JOURNAL_MODE: u32 = 0o600;
 
 /// The result of looking for a journal: the outcome of opening it, or the claim of its node, whose
 /// files were not opened yet.
-pub(crate) type Found<D> = Result<Result<Journal<D>, StoreFault>, NodeClaim<D>>;
+pub(crate) type FoundJournal<D> = Result<Result<Journal<D>, StoreFault>, NodeClaim<D>>;
 
 /// A folder with the journals of a group. That of node P is `node-P.db`, and its place is P - 1. If
 /// there is a pool, the journals that are opened share their messages with it.
@@ -132,7 +132,7 @@ pub(crate) fn length_at(folder: &Folder<'_>, place: usize) -> Option<usize> {
 }
 
 /// Opens a journal that was not opened yet, if it exists. It makes nothing.
-pub(crate) fn find<D: NodeDisk>(folder: &Folder<'_>, found: Found<D>) -> Found<D>
+pub(crate) fn find<D: NodeDisk>(folder: &Folder<'_>, found: FoundJournal<D>) -> FoundJournal<D>
     // It is found at the place where the claim was.
     ensures { (place : ℕ) → IsFoundAt (OpensIn D.Disk D.NodeDisk.held) place found
         → IsFoundAt (OpensIn D.Disk D.NodeDisk.held) place result }

@@ -9,7 +9,7 @@ ghost use Rattle.urb_folder.specs.internal.OpenedPlaces.{IsFoundAt, IsGiven};
 
 use crate::folder_fault::FolderFault;
 use crate::journal::Journal;
-use crate::node_journal::{Folder, Found, close_journal, find, length_at, make_next};
+use crate::node_journal::{Folder, FoundJournal, close_journal, find, length_at, make_next};
 use sqlite_disk::Disk;
 use std::alloc::Global;
 use std::mem::replace;
@@ -60,7 +60,7 @@ fn count_threads(folder: &Folder<'_>, count: usize) -> usize
 }
 
 // The claim of the next node. No node follows the greatest one, so its place is refused.
-fn claim_next<D: NodeDisk>(claims: &mut NodeClaims<D>) -> Found<D>
+fn claim_next<D: NodeDisk>(claims: &mut NodeClaims<D>) -> FoundJournal<D>
     ensures { (place : ℕ) → IsGiven place claims.old
         → IsFoundAt (OpensIn D.Disk D.NodeDisk.held) place result × IsGiven (place + 1) claims.new }
 {
@@ -75,7 +75,7 @@ fn prepare_places<D: NodeDisk>(
     alloc: Global,
     count: usize,
     claim: FolderClaim<D>,
-) -> Option<Vec<Found<D>>>
+) -> Option<Vec<FoundJournal<D>>>
     ensures count { IfSome result (λ found. vec_len found ≡ count) }
     ensures each { IfSome result (λ found. AreFound (OpensIn D.Disk D.NodeDisk.held) found.items) }
 {
@@ -90,7 +90,7 @@ fn prepare_places<D: NodeDisk>(
 }
 
 // Opens what is at a place, if it exists and was not opened yet.
-fn find_there<D: NodeDisk>(folder: &Folder<'_>, it: &mut Found<D>)
+fn find_there<D: NodeDisk>(folder: &Folder<'_>, it: &mut FoundJournal<D>)
     ensures { (place : ℕ) → IsFoundAt (OpensIn D.Disk D.NodeDisk.held) place it.old
         → IsFoundAt (OpensIn D.Disk D.NodeDisk.held) place it.new }
 {
@@ -103,7 +103,7 @@ fn find_there<D: NodeDisk>(folder: &Folder<'_>, it: &mut Found<D>)
 fn find_each<D: NodeDisk + Send, R: Threads + Sync>(
     rt: &R,
     folder: Folder<'_>,
-    found: &mut [Found<D>],
+    found: &mut [FoundJournal<D>],
 )
     requires { AreFound (OpensIn D.Disk D.NodeDisk.held) found.old }
     ensures count { length found.new ≡ length found.old }
@@ -113,7 +113,7 @@ fn find_each<D: NodeDisk + Send, R: Threads + Sync>(
     if count == 0 {
         return;
     }
-    let find_one = move |_place: usize, it: &mut Found<D>|
+    let find_one = move |_place: usize, it: &mut FoundJournal<D>|
         ensures { (at : ℕ) → IsFoundAt (OpensIn _ D.NodeDisk.held) at it.entry.now
             → IsFoundAt (OpensIn _ D.NodeDisk.held) at it.exit.now }
     {
@@ -126,7 +126,7 @@ fn find_each<D: NodeDisk + Send, R: Threads + Sync>(
 // claim.
 fn open_next<D: NodeDisk>(
     folder: &Folder<'_>,
-    found: Found<D>,
+    found: FoundJournal<D>,
     earlier: &[Journal<D>],
 ) -> Result<Journal<D>, StoreFault>
     requires earlier { AreOpened (OpensIn D.Disk D.NodeDisk.held) (length earlier.now) earlier.now }
@@ -143,7 +143,7 @@ fn open_next<D: NodeDisk>(
 // after it stays in `found`.
 fn open_in_order<D: NodeDisk>(
     folder: &Folder<'_>,
-    found: &mut [Found<D>],
+    found: &mut [FoundJournal<D>],
     all: &mut Vec<Journal<D>>,
 ) -> Option<StoreFault>
     requires found { AreFound (OpensIn D.Disk D.NodeDisk.held) found.old }
@@ -163,7 +163,7 @@ fn open_in_order<D: NodeDisk>(
 }
 
 // Closes everything that was found.
-fn close_found<D: Disk + Drop>(folder: &Folder<'_>, found: Vec<Found<D>>) {
+fn close_found<D: Disk + Drop>(folder: &Folder<'_>, found: Vec<FoundJournal<D>>) {
     for it in found {
         if let Ok(Ok(it)) = it {
             close_journal(folder, it);

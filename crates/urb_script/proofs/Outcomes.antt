@@ -24,8 +24,8 @@ use Rattle.urb_script.specs.Commands.{ArriveFlagged, IsRoute, Raw, Tick, Log, He
 use Rattle.urb_script.specs.Commands.{AreArguments, IsSpelled, InRange, Spells}
 use Rattle.urb_script.specs.Steps.{Plays, MayCome, answer}
 use Rattle.urb_script.specs.Scripts.{Answers, Ends, IsBad, HasOneOutcome, bad_line}
-use Rattle.urb_script.specs.declared.runs.Ended.{Ended}
-use Rattle.urb_script.specs.declared.runs.Ended.TheVariants.{Whole, BadLine}
+use Rattle.urb_script.specs.declared.runs.RunEnd.{RunEnd}
+use Rattle.urb_script.specs.declared.runs.RunEnd.TheVariants.{Whole, BadLine}
 
 -- ---- a line spells one command
 
@@ -177,7 +177,7 @@ plays_may (Some scene) asked text new t = tt
 
 -- ---- a script ends in one way
 
-ends_one : (state : Option Scene) (left : List (List ℕ)) (number : ℕ) (ended other : Ended)
+ends_one : (state : Option Scene) (left : List (List ℕ)) (number : ℕ) (ended other : RunEnd)
     (last final : List ℕ) → Ends state left number ended last → Ends state left number other final
     → (ended ≡ other) × (last ≡ final)
 ends_one state left number Whole Whole last final e f = (refl, e.1 ∙ sym f.1)
@@ -190,16 +190,16 @@ ends_one state left number (BadLine bad) (BadLine worse) last final e f =
 
 -- a script doesn't end before a command that may come
 goes_on : (state : Option Scene) (line : List ℕ) (lines : List (List ℕ)) (number : ℕ)
-    (ended : Ended) (last : List ℕ) (asked : Command) → MayCome state asked → Spells line asked
+    (ended : RunEnd) (last : List ℕ) (asked : Command) → MayCome state asked → Spells line asked
     → Ends state (line ∷ lines) number ended last → ⊥
 goes_on state line lines number Whole last asked may s e = absurd (cc (e.0))
 goes_on state line lines number (BadLine bad) last asked may s e = e.0 asked may s
 
-abbrev Same : Ended → Ended → List ℕ → List ℕ → Type 0
+abbrev Same : RunEnd → RunEnd → List ℕ → List ℕ → Type 0
 Same ended other output text = (ended ≡ other) × (output ≡ text)
 
 one_way : (old state final : Option Scene) (done others left rest : List (List ℕ))
-    (said text last end : List ℕ) (number n m : ℕ) (ended other : Ended)
+    (said text last end : List ℕ) (number n m : ℕ) (ended other : RunEnd)
     → done ++ left ≡ others ++ rest → Answers Plays old done said state
     → Answers Plays old others text final → n ≡ length done + number
     → m ≡ length others + number

@@ -7,7 +7,7 @@ use Rattle.std.specs.Prelude.{IsSomeAnd}
 use Rattle.std.specs.Io.KnownBytes.{Appends}
 use Rattle.std.proofs.KnownBytes.{Appends-nil, Appends-trans}
 use Rattle.urb_script.specs.declared.input.LineRead.TheVariants as read
-use Rattle.urb_script.specs.declared.runs.Ended.TheVariants.{Whole, BadLine}
+use Rattle.urb_script.specs.declared.runs.RunEnd.TheVariants.{Whole, BadLine}
 use Rattle.urb_script.specs.Lines.{lines_of, IsOneLine}
 use Rattle.urb_script.specs.internal.LineReads.{ReadsLine, TookPart}
 use Rattle.urb_script.specs.declared.runs.RunFault.{RunFault}

@@ -7,8 +7,8 @@ use Rattle.urb_script.specs.Commands.{Command, Spells}
 use Rattle.urb_group.specs.SafetyProperties.{Safe}
 use Rattle.urb_group.specs.Scenes.{Scene}
 use Rattle.urb_script.specs.Steps.{Plays, Takes, MayCome}
-use Rattle.urb_script.specs.declared.runs.Ended.{Ended}
-use Rattle.urb_script.specs.declared.runs.Ended.TheVariants.{Whole, BadLine}
+use Rattle.urb_script.specs.declared.runs.RunEnd.{RunEnd}
+use Rattle.urb_script.specs.declared.runs.RunEnd.TheVariants.{Whole, BadLine}
 use Rattle.urb_script.specs.declared.runs.RunFault.{RunFault}
 use Rattle.urb_script.specs.declared.runs.RunFault.TheVariants.{Read, Write, NoMemory}
 
@@ -37,7 +37,7 @@ abbrev pub bad_line : ℕ → List ℕ
 bad_line number = codes "bad line " ++ decimal number ++ 10 ∷ []
 
 -- how a script ends after the lines that were answered
-abbrev pub Ends : Option Scene → List (List ℕ) → ℕ → Ended → List ℕ → Type 0
+abbrev pub Ends : Option Scene → List (List ℕ) → ℕ → RunEnd → List ℕ → Type 0
 Ends state left number Whole output =
     (left ≡ []) × (output ≡ []) × ((scene : Scene) × (state ≡ Some scene))
 Ends state left number (BadLine bad) output =
@@ -45,7 +45,7 @@ Ends state left number (BadLine bad) output =
 
 -- What the reader still has, if these lines were not answered. At the end, it is nothing. After a
 -- bad line, it is all of them but at most one line.
-abbrev pub Leaves : List (List ℕ) → Ended → List ℕ → Type 0
+abbrev pub Leaves : List (List ℕ) → RunEnd → List ℕ → Type 0
 Leaves left Whole unread = unread ≡ []
 Leaves left (BadLine bad) unread =
     (part : List ℕ) × IsOneLine part × (left ≡ lines_of (part ++ unread))
@@ -53,7 +53,7 @@ Leaves left (BadLine bad) unread =
 -- A script from its first line to its end, by this rule. It has the lines that are answered, the
 -- other lines, the answers to the first, and what was written at the end. `unread` is what the
 -- reader still has.
-pub record WholeScript (By : Rule) (input : List ℕ) (ended : Ended) (unread : List ℕ)
+pub record WholeScript (By : Rule) (input : List ℕ) (ended : RunEnd) (unread : List ℕ)
     (before after : Option (List ℕ)) : Type 0 where
   pub done : List (List ℕ)
   pub left : List (List ℕ)
@@ -100,7 +100,7 @@ StaysSafe =
 -- answer it are the same.
 abbrev pub HasOneOutcome : Type 0
 HasOneOutcome =
-    (input : List ℕ) (ended other : Ended) (unread left before after later : List ℕ)
+    (input : List ℕ) (ended other : RunEnd) (unread left before after later : List ℕ)
     → WholeScript Plays input ended unread (Some before) (Some after)
     → WholeScript Plays input other left (Some before) (Some later)
     → (ended ≡ other) × (after ≡ later)

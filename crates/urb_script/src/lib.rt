@@ -18,4 +18,4 @@ mod reply_lines;
 mod runs;
 mod words;
 
-pub use runs::{Ended, RunFault, run};
+pub use runs::{RunEnd, RunFault, run};

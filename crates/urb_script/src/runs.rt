@@ -25,7 +25,7 @@ const ANSWER_ROOM: usize = 128;
 
 /// How a script ended.
 #[derive(Clone, Copy, Debug, PartialEq, Eq)]
-pub enum Ended {
+pub enum RunEnd {
     /// Each line was a command, and is answered.
     Whole,
     /// The line with this number, from 1, is no command that may come there. The lines before it
@@ -168,7 +168,7 @@ fn run_lines<A: Allocator + Copy, P: Play<A>, R: Read, W: Write>(
     alloc: A,
     reader: &mut R,
     writer: &mut W,
-) -> Result<Ended, RunFault>
+) -> Result<RunEnd, RunFault>
     ensures whole { IfOk result (λ ended. IfSome (R.remaining reader.old) (λ input.
         IsSomeAnd (R.remaining reader.new) (λ unread. WholeScript Takes input ended unread
         (W.contents writer.old) (W.contents writer.new)))) }
@@ -185,19 +185,19 @@ fn run_lines<A: Allocator + Copy, P: Play<A>, R: Read, W: Write>(
             LineRead::Whole => {}
             LineRead::End => {
                 if state.is_some() {
-                    return Ok(Ended::Whole);
+                    return Ok(RunEnd::Whole);
                 }
                 write_bad_line(writer, &mut text, number)?;
-                return Ok(Ended::BadLine(number));
+                return Ok(RunEnd::BadLine(number));
             }
             LineRead::Long => {
                 write_bad_line(writer, &mut text, number)?;
-                return Ok(Ended::BadLine(number));
+                return Ok(RunEnd::BadLine(number));
             }
         }
         let Some(next) = answer_line(alloc, state, line.as_slice(), &mut text)? else {
             write_bad_line(writer, &mut text, number)?;
-            return Ok(Ended::BadLine(number));
+            return Ok(RunEnd::BadLine(number));
         };
         text.extend_from_slice(b"\n")?;
         write_and_flush(writer, text.as_slice())?;
@@ -214,7 +214,7 @@ pub fn run<A: Allocator + Copy, R: Read, W: Write>(
     alloc: A,
     reader: &mut R,
     writer: &mut W,
-) -> Result<Ended, RunFault>
+) -> Result<RunEnd, RunFault>
     // What was written is the answers to all lines that the reader held. If a line is bad, it is
     // the answers to the lines before the first bad line, and that line's own answer. Nothing was
     // read after that line.

@@ -33,7 +33,7 @@ pub fn gives(
     rt: &(impl Abort + AllocGlobal),
     script: &[u8],
     answers: &[u8],
-    wanted: Ended,
+    wanted: RunEnd,
 ) -> Result<(), Fail> {
     let script = spell_outcome(rt.alloc(), script)?;
     let answers = spell_outcome(rt.alloc(), answers)?;
@@ -50,7 +50,7 @@ pub fn gives(
 pub fn gives_rows(
     rt: &(impl Abort + AllocGlobal),
     rows: &[(&str, &str)],
-    wanted: Ended,
+    wanted: RunEnd,
 ) -> Result<(), Fail> {
     let script = script_of(rt.alloc(), rows)?;
     let answers = answers_of(rt.alloc(), rows)?;
@@ -64,7 +64,7 @@ fn whole_scripts_are_answered(rt: HostRuntime) -> Result<(), Fail> {
         &rt,
         b"group 3 10\nsubmit 2 7 1 a\nstored 2\nlog 2\nlog 1",
         b"group 3 10\ndraft 2.1 at 1\naccepted 2.1 sent 2 released 0\nlog 2:\nlog 1:\n",
-        Ended::Whole,
+        RunEnd::Whole,
     )?;
     // If several refusals apply, the answer is the first one.
     gives_rows(
@@ -86,7 +86,7 @@ fn whole_scripts_are_answered(rt: HostRuntime) -> Result<(), Fail> {
             ("submit 1 7 1 a", "accepted 1.1"),
             ("submit 1 8 3 c", "refused gap 2"),
         ],
-        Ended::Whole,
+        RunEnd::Whole,
     )?;
     // A log, and the holders of a name, are shown in every state of a node. Digits may be of either
     // case.
@@ -116,7 +116,7 @@ fn whole_scripts_are_answered(rt: HostRuntime) -> Result<(), Fail> {
             ("log 3", "refused badnode"),
             ("tick 2", "sent"),
         ],
-        Ended::Whole,
+        RunEnd::Whole,
     )
 }
 
@@ -130,7 +130,7 @@ fn is_bad(rt: &(impl Abort + AllocGlobal), line: &[u8]) -> Result<(), Fail> {
         rt,
         script.as_slice(),
         b"group 1 10\nbad line 2\n",
-        Ended::BadLine(2),
+        RunEnd::BadLine(2),
     )
 }
 
@@ -223,7 +223,7 @@ const BAD: [&[u8]; 66] = [
 #[test]
 fn bad_lines_end_the_run(rt: HostRuntime) -> Result<(), Fail> {
     for script in BAD_FIRST {
-        gives(&rt, script, b"bad line 1\n", Ended::BadLine(1))?;
+        gives(&rt, script, b"bad line 1\n", RunEnd::BadLine(1))?;
     }
     for line in BAD {
         is_bad(&rt, line)?;
@@ -258,9 +258,19 @@ fn a_line_has_at_most_its_greatest_length(rt: HostRuntime) -> Result<(), Fail> {
     for (times, more, too_long) in LENGTHS {
         let script = long_script(rt.alloc(), times, more)?;
         if too_long {
-            gives(&rt, &script, b"group 1 10\nbad line 2\n", Ended::BadLine(2))?;
+            gives(
+                &rt,
+                &script,
+                b"group 1 10\nbad line 2\n",
+                RunEnd::BadLine(2),
+            )?;
         } else {
-            gives(&rt, &script, b"group 1 10\nrefused toolong\n", Ended::Whole)?;
+            gives(
+                &rt,
+                &script,
+                b"group 1 10\nrefused toolong\n",
+                RunEnd::Whole,
+            )?;
         }
     }
     Ok(())
@@ -273,9 +283,9 @@ fn a_script_cut_within_its_last_line_has_a_shorter_line(rt: HostRuntime) -> Resu
         // The lines before the cut in the last line.
         let (answers, ended) = match cut {
             0..=10 => continue,
-            11 => (b"group 1 10\n".as_slice(), Ended::Whole),
-            25 => (b"group 1 10\ndraft 1.1 at 1\n".as_slice(), Ended::Whole),
-            _ => (b"group 1 10\nbad line 2\n".as_slice(), Ended::BadLine(2)),
+            11 => (b"group 1 10\n".as_slice(), RunEnd::Whole),
+            25 => (b"group 1 10\ndraft 1.1 at 1\n".as_slice(), RunEnd::Whole),
+            _ => (b"group 1 10\nbad line 2\n".as_slice(), RunEnd::BadLine(2)),
         };
         let Some(front) = script.get(..cut) else {
             return Err("a cut behind the end".into());
@@ -288,19 +298,19 @@ fn a_script_cut_within_its_last_line_has_a_shorter_line(rt: HostRuntime) -> Resu
 
 #[test]
 fn a_last_line_may_lack_its_end(rt: HostRuntime) -> Result<(), Fail> {
-    gives(&rt, b"group 1 10", b"group 1 10\n", Ended::Whole)?;
+    gives(&rt, b"group 1 10", b"group 1 10\n", RunEnd::Whole)?;
     gives(
         &rt,
         b"group 1 10\nstored 1",
         b"group 1 10\nrefused stale\n",
-        Ended::Whole,
+        RunEnd::Whole,
     )?;
     for script in [
         b"group 1 10\nstored".as_slice(),
         b"group 1 10\nsubmit 1 7",
         b"group 1 10\n\n",
     ] {
-        gives(&rt, script, b"group 1 10\nbad line 2\n", Ended::BadLine(2))?;
+        gives(&rt, script, b"group 1 10\nbad line 2\n", RunEnd::BadLine(2))?;
     }
     Ok(())
 }

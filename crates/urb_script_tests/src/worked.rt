@@ -7,10 +7,10 @@ use crate::scripts::{FORGOTTEN, HALF, MAJORITY, ONE_NODE, REOPENED, RESENT, Rows
 use crate::tests::gives_rows;
 use std::process::Abort;
 use std::test::Fail;
-use urb_script::Ended;
+use urb_script::RunEnd;
 
 /// Scripts, their answers, and how they end.
-const WORKED: [(Rows, Ended); 27] = [
+const WORKED: [(Rows, RunEnd); 27] = [
     // Calls of a node that is down, is storing, or doesn't exist. Of several reasons, bad bytes are
     // reported first, then a bad node, then the node's state.
     (
@@ -28,7 +28,7 @@ const WORKED: [(Rows, Ended); 27] = [
             ("crash 4", "refused badnode"),
             ("restart 4", "refused badnode"),
         ],
-        Ended::Whole,
+        RunEnd::Whole,
     ),
     // A `fail` without a draft is refused, and the next store works.
     (
@@ -38,7 +38,7 @@ const WORKED: [(Rows, Ended); 27] = [
             ("submit 1 7 1 a", "draft 1.1 at 1"),
             ("stored 1", "accepted 1.1 sent 0 released 1"),
         ],
-        Ended::Whole,
+        RunEnd::Whole,
     ),
     // The greatest values that lines may have.
     (
@@ -47,7 +47,7 @@ const WORKED: [(Rows, Ended); 27] = [
             ("submit 7 65535 4294967295 !~", "refused gap 1"),
             ("arrive 6 7 7 4294967295", "refused forged"),
         ],
-        Ended::Whole,
+        RunEnd::Whole,
     ),
     // A node crashes and restarts. Then a packet shows that node 2 has stored its message, and with
     // its own copy that is a majority.
@@ -66,10 +66,10 @@ const WORKED: [(Rows, Ended); 27] = [
             ("log 1", "log 1: 1.1=hi"),
             ("held 1.1", "held 1.1: 1 2"),
         ],
-        Ended::Whole,
+        RunEnd::Whole,
     ),
-    (ONE_NODE, Ended::Whole),
-    (MAJORITY, Ended::Whole),
+    (ONE_NODE, RunEnd::Whole),
+    (MAJORITY, RunEnd::Whole),
     // Names are released in order of number.
     (
         &[
@@ -84,7 +84,7 @@ const WORKED: [(Rows, Ended); 27] = [
             ("stored 2", "taken 1.1 sent 2 released 2"),
             ("log 2", "log 2: 1.1=a 1.2=b"),
         ],
-        Ended::Whole,
+        RunEnd::Whole,
     ),
     // A message that is too long for version 1 comes in a packet of version 2. Its repeat is
     // answered, with the flag of the certificate.
@@ -98,7 +98,7 @@ const WORKED: [(Rows, Ended); 27] = [
             ("arrive 1 2 1 1", "answered 1.1 to 1 flags 1"),
             ("log 2", "log 2: 1.1=@"),
         ],
-        Ended::Whole,
+        RunEnd::Whole,
     ),
     // A packet of a message that its source hasn't stored is forged. If the source itself gets it,
     // the refusal is `badnode`, since the packet's target is node 2.
@@ -116,7 +116,7 @@ const WORKED: [(Rows, Ended); 27] = [
                 "refused badnode",
             ),
         ],
-        Ended::Whole,
+        RunEnd::Whole,
     ),
     // A store that failed and kept nothing leaves no message.
     (
@@ -129,7 +129,7 @@ const WORKED: [(Rows, Ended); 27] = [
             ("stored 1", "accepted 1.1 sent 0 released 1"),
             ("log 1", "log 1: 1.1=b"),
         ],
-        Ended::Whole,
+        RunEnd::Whole,
     ),
     // A store that failed and kept the record shows it after a restart, and a tick sends it.
     (
@@ -144,7 +144,7 @@ const WORKED: [(Rows, Ended); 27] = [
             ("submit 1 7 1 a", "accepted 1.1"),
             ("submit 1 7 1 b", "refused conflict"),
         ],
-        Ended::Whole,
+        RunEnd::Whole,
     ),
     // No node is counted twice.
     (
@@ -157,10 +157,10 @@ const WORKED: [(Rows, Ended); 27] = [
             ("arrive 1 2 1 1", "again 1.1"),
             ("arrive 1 2 1 1", "again 1.1"),
         ],
-        Ended::Whole,
+        RunEnd::Whole,
     ),
-    (HALF, Ended::Whole),
-    (FORGOTTEN, Ended::Whole),
+    (HALF, RunEnd::Whole),
+    (FORGOTTEN, RunEnd::Whole),
     // A client's numbers begin at one.
     (
         &[
@@ -168,7 +168,7 @@ const WORKED: [(Rows, Ended); 27] = [
             ("submit 1 7 2 a", "refused gap 1"),
             ("submit 1 7 0 a", "refused gap 1"),
         ],
-        Ended::Whole,
+        RunEnd::Whole,
     ),
     // A full sender still answers a repeat.
     (
@@ -181,7 +181,7 @@ const WORKED: [(Rows, Ended); 27] = [
             ("submit 1 7 3 c", "refused full"),
             ("submit 1 7 2 b", "accepted 1.2"),
         ],
-        Ended::Whole,
+        RunEnd::Whole,
     ),
     // A node that is storing a record can only finish that or crash. A node that is down can only
     // restart. Without a draft, `stored` and `fail` ask the store nothing.
@@ -202,7 +202,7 @@ const WORKED: [(Rows, Ended); 27] = [
             ("restart 1", "up 1"),
             ("held 1.1", "held 1.1:"),
         ],
-        Ended::Whole,
+        RunEnd::Whole,
     ),
     // Bytes that are no packet are refused by their first fault. The last two are packets, and are
     // refused for what they say.
@@ -238,7 +238,7 @@ const WORKED: [(Rows, Ended); 27] = [
                 "refused badnode",
             ),
         ],
-        Ended::Whole,
+        RunEnd::Whole,
     ),
     // Payloads of 0 and of 16,384 bytes are accepted, one of 16,385 isn't.
     (
@@ -251,11 +251,11 @@ const WORKED: [(Rows, Ended); 27] = [
             ("submit 1 7 3 @x", "refused toolong"),
             ("log 1", "log 1: 1.1=- 1.2=@"),
         ],
-        Ended::Whole,
+        RunEnd::Whole,
     ),
-    (RESENT, Ended::Whole),
-    (REOPENED, Ended::Whole),
-    (TOLD, Ended::Whole),
+    (RESENT, RunEnd::Whole),
+    (REOPENED, RunEnd::Whole),
+    (TOLD, RunEnd::Whole),
     // A stop loses a draft, whose name is given again, and keeps what a failed store has kept.
     (
         &[
@@ -269,7 +269,7 @@ const WORKED: [(Rows, Ended); 27] = [
             ("held 1.1", "held 1.1: 1"),
             ("submit 1 7 1 b", "accepted 1.1"),
         ],
-        Ended::Whole,
+        RunEnd::Whole,
     ),
     // All nodes stop at once. What was stored stays, and a draft that wasn't stored is lost. The
     // client's next message at node 1 gets the next number.
@@ -291,7 +291,7 @@ const WORKED: [(Rows, Ended); 27] = [
             ("submit 1 7 2 c", "draft 1.2 at 2"),
             ("restart 3", "refused notdown"),
         ],
-        Ended::Whole,
+        RunEnd::Whole,
     ),
     // A record that a failed store kept is found again.
     (
@@ -306,7 +306,7 @@ const WORKED: [(Rows, Ended); 27] = [
             ("reopen", "open"),
             ("submit 1 7 2 c", "draft 1.2 at 2"),
         ],
-        Ended::Whole,
+        RunEnd::Whole,
     ),
     // Refused commands, and, as a bad line, a packet of a node to itself.
     (
@@ -321,7 +321,7 @@ const WORKED: [(Rows, Ended); 27] = [
             ("log 2", "log 2:"),
             ("arrive 1 1 1 1", "bad line 9"),
         ],
-        Ended::BadLine(9),
+        RunEnd::BadLine(9),
     ),
     // Two senders are delivered in either order.
     (
@@ -343,7 +343,7 @@ const WORKED: [(Rows, Ended); 27] = [
             ("log 3", "log 3: 1.1=a 2.1=b"),
             ("held 2.1", "held 2.1: 2 3"),
         ],
-        Ended::Whole,
+        RunEnd::Whole,
     ),
 ];
 

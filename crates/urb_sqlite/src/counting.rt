@@ -14,7 +14,7 @@ ghost use Rattle.urb_sqlite.specs.internal.PartOpening.{IsRead, ReadsPart};
 ghost use Rattle.urb_sqlite.specs.RowReadings.{read_from};
 
 use crate::records::{fault_of, limit_of};
-use crate::rows::{ReadFault, record_at};
+use crate::rows::{TableFault, record_at};
 use crate::sql;
 use crate::sql::Part;
 use sqlite::{Alter, Connection};
@@ -30,7 +30,7 @@ fn count_rows<S: Alter>(
     part: Part,
     limit: usize,
     first: u32,
-) -> Result<u32, ReadFault>
+) -> Result<u32, TableFault>
     requires { limit ≤ MAX_PAYLOAD }
     ensures counted { HasCleanDisk (state S.Store conn.new)
         → IfOk result (λ next. (rows : _)
@@ -40,7 +40,7 @@ fn count_rows<S: Alter>(
         × (next ≡ first + length records)) }
     ensures bad { HasCleanDisk (state S.Store conn.new)
         → IfErr result (λ e. (place : ℕ)
-        → e ≡ ReadFault.BadRow place
+        → e ≡ TableFault.BadRow place
         → (rows : _)
         × Begins (select_of part) [] (state S.Store conn.old) rows
         × (read_from limit first rows ≡ Err place)
@@ -58,7 +58,7 @@ fn count_rows<S: Alter>(
         };
         match record_at(alloc, None, limit, place, row)? {
             Some(record) => drop(record),
-            None => return Err(ReadFault::BadRow(place)),
+            None => return Err(TableFault::BadRow(place)),
         }
         place += 1;
     }

@@ -26,7 +26,7 @@ use urb_stable::StoreFault;
 
 /// The size of a page of a new journal, in bytes. A record takes two pages of the log. So the log
 /// holds four times as many records as with SQLite's own page size, 4,096 bytes.
-const PAGE_BYTES: usize = 1024;
+pub(crate) const PAGE_BYTES: usize = 1024;
 
 /// The size of the pages of a new journal.
 fn page_size() -> PageSize

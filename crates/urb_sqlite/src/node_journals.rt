@@ -10,6 +10,7 @@ ghost use Rattle.urb_sqlite.specs.FoundJournals.{AreFoundIn, IsFoundIn};
 ghost use Rattle.urb_sqlite.specs.internal.LogLengths.{AreLogPages};
 
 use crate::journal_close::close_and_remove_log;
+use crate::new_file::PAGE_BYTES;
 use crate::{FolderClaim, NodeClaim, NodeDisk, SqlStable};
 use sqlite::{FileStore, Files, Options};
 use sqlite_disk::Disk;
@@ -29,9 +30,8 @@ pub type NodeJournal<D> = SqlStable<FileStore<D>>;
 /// two thousand waits for such a copy.
 const LOG_BYTES: usize = 16_384_000;
 
-/// The same limit in pages, for files that hold no database yet. A new journal has pages of 1,024
-/// bytes.
-const NEW_LOG_PAGES: usize = 16_000;
+/// The same limit in pages, for files that hold no database yet. They get pages of `PAGE_BYTES`.
+const NEW_LOG_PAGES: usize = LOG_BYTES / PAGE_BYTES;
 
 /// The limit of the log in pages, by the page size of these files. It writes nothing. `Device`: a
 /// file can't be read.

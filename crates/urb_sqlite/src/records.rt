@@ -25,7 +25,7 @@ ghost use Rattle.urb_sqlite.specs.internal.PartOpening.{ReadsPart, IsPrepared, I
 ghost use Rattle.urb_sqlite.specs.internal.PartOpening.{IsPartRefused};
 
 use crate::counting::count_part;
-use crate::rows::ReadFault;
+use crate::rows::TableFault;
 use crate::sql::{LONGEST_IN_FIRST, LONGEST_IN_SECOND, Part};
 use crate::{MessagePool, rows, sql, table_shape};
 use sqlite::{Alter, Connection, Error, ErrorCode};
@@ -105,18 +105,18 @@ pub fn limit_of(part: Part) -> usize
 }
 
 /// The fault that a store reports for a fault of reading. `blame` judges an error of the database.
-pub fn fault_of(failures: &mut u64, fault: ReadFault) -> StoreFault
+pub fn fault_of(failures: &mut u64, fault: TableFault) -> StoreFault
     ensures row { (place : ℕ)
         → result ≡ StoreFault.BadRow place
-        → fault ≡ ReadFault.BadRow place }
+        → fault ≡ TableFault.BadRow place }
     ensures placed { is_place result ≡ false }
     ensures device { result ≡ StoreFault.Device → failures.old < failures.new }
     ensures counts { failures.old ≤ failures.new }
 {
     match fault {
-        ReadFault::Sqlite(error) => blame(failures, error),
-        ReadFault::NoMemory => StoreFault::NoMemory,
-        ReadFault::BadRow(place) => StoreFault::BadRow(place),
+        TableFault::Sqlite(error) => blame(failures, error),
+        TableFault::NoMemory => StoreFault::NoMemory,
+        TableFault::BadRow(place) => StoreFault::BadRow(place),
     }
 }
 

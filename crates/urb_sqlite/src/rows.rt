@@ -164,7 +164,7 @@ pub fn record_at(
 
 /// Why reading a table stopped before its end.
 #[derive(Drop)]
-pub enum ReadFault {
+pub enum TableFault {
     /// The database refused.
     Sqlite(Error),
     /// An allocation was refused.
@@ -173,36 +173,36 @@ pub enum ReadFault {
     BadRow(u32),
 }
 
-impl From<Error> for ReadFault {
+impl From<Error> for TableFault {
     ghost use Rattle.std.specs.Prelude.{◌≡◌};
-    ghost use Rattle.urb_sqlite.specs.declared.rows.ReadFault.TheVariants.{Sqlite};
+    ghost use Rattle.urb_sqlite.specs.declared.rows.TableFault.TheVariants.{Sqlite};
 
     ghost from_gives = { λ e fault. fault ≡ Sqlite e };
 
-    fn from(error: Error) -> ReadFault {
-        ReadFault::Sqlite(error)
+    fn from(error: Error) -> TableFault {
+        TableFault::Sqlite(error)
     }
 }
 
-impl From<NoMemory> for ReadFault {
+impl From<NoMemory> for TableFault {
     ghost use Rattle.std.specs.Prelude.{◌≡◌};
-    ghost use Rattle.urb_sqlite.specs.declared.rows.ReadFault.TheVariants.{NoMemory as no_memory};
+    ghost use Rattle.urb_sqlite.specs.declared.rows.TableFault.TheVariants.{NoMemory as no_memory};
 
     ghost from_gives = { λ _ fault. fault ≡ no_memory };
 
-    fn from(_: NoMemory) -> ReadFault {
-        ReadFault::NoMemory
+    fn from(_: NoMemory) -> TableFault {
+        TableFault::NoMemory
     }
 }
 
-impl<T: Drop> From<AllocFailed<T>> for ReadFault {
+impl<T: Drop> From<AllocFailed<T>> for TableFault {
     ghost use Rattle.std.specs.Prelude.{◌≡◌};
-    ghost use Rattle.urb_sqlite.specs.declared.rows.ReadFault.TheVariants.{NoMemory as no_memory};
+    ghost use Rattle.urb_sqlite.specs.declared.rows.TableFault.TheVariants.{NoMemory as no_memory};
 
     ghost from_gives = { λ _ fault. fault ≡ no_memory };
 
-    fn from(_: AllocFailed<T>) -> ReadFault {
-        ReadFault::NoMemory
+    fn from(_: AllocFailed<T>) -> TableFault {
+        TableFault::NoMemory
     }
 }
 
@@ -216,7 +216,7 @@ pub fn read_rows<S: Alter>(
     part: Part,
     limit: usize,
     first: u32,
-) -> Result<Vec<Record>, ReadFault>
+) -> Result<Vec<Record>, TableFault>
     requires { limit ≤ MAX_PAYLOAD }
     ensures records { HasCleanDisk (state S.Store conn.new)
         → IfOk result (λ records. (rows : _)
@@ -225,13 +225,13 @@ pub fn read_rows<S: Alter>(
     ensures short { IfOk result (λ records. first + length records.items ≤ 4294967295) }
     ensures bad { HasCleanDisk (state S.Store conn.new)
         → IfErr result (λ e. (place : ℕ)
-        → e ≡ ReadFault.BadRow place
+        → e ≡ TableFault.BadRow place
         → (rows : _)
         × Begins (select_of part) [] (state S.Store conn.old) rows
         × (read_from limit first rows ≡ Err place)) }
     ensures unchanged { HasCleanDisk (state S.Store conn.new)
         → IfErr result (λ e. (place : ℕ)
-        → e ≡ ReadFault.BadRow place
+        → e ≡ TableFault.BadRow place
         → IsUnchanged (state S.Store conn.old) (state S.Store conn.new)) }
     ensures left { HasCleanDisk (state S.Store conn.new)
         → OnErr result (IsUnchanged (state S.Store conn.old) (state S.Store conn.new)
@@ -248,7 +248,7 @@ pub fn read_rows<S: Alter>(
         };
         match record_at(alloc, pool, limit, place, row)? {
             Some(record) => records.push(record)?,
-            None => return Err(ReadFault::BadRow(place)),
+            None => return Err(TableFault::BadRow(place)),
         }
         place += 1;
     }

@@ -6,11 +6,11 @@ use Rattle.urb_client.specs.Requests.{Asked}
 use Rattle.urb_client.specs.Responses.{Said, Listing, Refused}
 use Rattle.urb_cli.specs.Advice.{explained_refusal}
 use Rattle.urb_cli.specs.Following.{IsAnswered, IsFollowed, Reader}
-use Rattle.urb_cli.specs.declared.client.follow_turn.Turn.{Turn}
-use Rattle.urb_cli.specs.declared.client.follow_turn.Turn.TheVariants as turn
+use Rattle.urb_cli.specs.declared.client.follow_turn.FollowTurn.{FollowTurn}
+use Rattle.urb_cli.specs.declared.client.follow_turn.FollowTurn.TheVariants as turn
 
 -- what a turn prints of a response to a request for the log from a place on
-abbrev pub IsPrinted : (Label × Content → List ℕ) → ℕ → Option (List ℕ) → Said → Turn
+abbrev pub IsPrinted : (Label × Content → List ℕ) → ℕ → Option (List ℕ) → Said → FollowTurn
     → Option (List ℕ) → Type 0
 IsPrinted line place old said (turn.Page next) new =
     (page : List (Label × Content)) × (said ≡ Listing page) × (next ≡ place + length page)
@@ -30,7 +30,7 @@ module _ {C : Type 0} (calls : C → Asked → Option Said → C → Type 0)
       (record { caller = caller; place = place; output = output })
 
   -- one turn: one more response is printed, or the refusal that ends it
-  abbrev pub Turns : Reader C → Turn → C → Option (List ℕ) → Type 0
+  abbrev pub Turns : Reader C → FollowTurn → C → Option (List ℕ) → Type 0
   Turns old (turn.Page next) caller output = Goes old caller next output
   Turns old turn.Older caller output = Goes old caller old.place output
   Turns old turn.Refused caller output =

@@ -17,7 +17,7 @@ use crate::client::caller::{Caller, insist};
 use crate::client::calls::send;
 use crate::client::entry_form::push_page_in;
 use crate::client::entry_form_kind::EntryForm;
-use crate::client::follow_turn::Turn;
+use crate::client::follow_turn::FollowTurn;
 use crate::client::node_caller::NodeCaller;
 use crate::client::publish::write_refusal;
 use crate::client::stream_end::report_stream_end;
@@ -122,7 +122,7 @@ fn print_response<W: Write>(
     place: u32,
     knows_wait: bool,
     response: &Response,
-) -> Result<Turn, StreamFault>
+) -> Result<FollowTurn, StreamFault>
     requires { 0 < place }
     ensures turn { IfOk result (λ turn. IsPrinted (form_line form) place (W.contents writer.old)
         (said_by response.now) turn (W.contents writer.new)) }
@@ -132,14 +132,14 @@ fn print_response<W: Write>(
     match response {
         Response::Entries(entries) => {
             let next = write_page_from(alloc, writer, form, place, entries.as_slice())?;
-            Ok(Turn::Page(next))
+            Ok(FollowTurn::Page(next))
         }
         Response::Refused { number, detail: _ } if *number == UNKNOWN_REQUEST && knows_wait => {
-            Ok(Turn::Older)
+            Ok(FollowTurn::Older)
         }
         Response::Refused { number, detail } => {
             write_refusal(alloc, writer, *number, *detail)?;
-            Ok(Turn::Refused)
+            Ok(FollowTurn::Refused)
         }
         _ => Err(StreamFault::Call(CallFault::Broken(Fault::BadReply))),
     }
@@ -153,7 +153,7 @@ fn take_turn<C: Caller, W: Write>(
     form: EntryForm,
     place: u32,
     knows_wait: bool,
-) -> Result<Turn, StreamFault>
+) -> Result<FollowTurn, StreamFault>
     requires { 0 < place }
     ensures turn { IfOk result (λ turn. Turns C.calls (form_line form)
         (record { caller = caller.old; place = place; output = W.contents writer.old }) turn
@@ -189,14 +189,14 @@ pub fn follow_over<C: Caller, W: Write>(
     let (mut place, mut knows_wait) = (from, true);
     for _ in 0..u64::MAX {
         match take_turn(alloc, caller, writer, form, place, knows_wait)? {
-            Turn::Page(next) => {
+            FollowTurn::Page(next) => {
                 if next == place && !knows_wait {
                     caller.pause();
                 }
                 place = next;
             }
-            Turn::Older => knows_wait = false,
-            Turn::Refused => return Ok(StreamEnd::Refused),
+            FollowTurn::Older => knows_wait = false,
+            FollowTurn::Refused => return Ok(StreamEnd::Refused),
         }
     }
     Err(StreamFault::Own(Fault::Read))

@@ -4,7 +4,7 @@
 
 /// What a turn of `follow` comes to.
 #[derive(Clone, Copy, Debug, PartialEq, Eq)]
-pub(crate) enum Turn {
+pub(crate) enum FollowTurn {
     /// A page was printed. The next turn asks for this place.
     Page(u32),
     /// The node is older than the request to wait.

@@ -12,7 +12,7 @@ use std::sync::Wait;
 use std::test::Fail;
 use std::time::Duration;
 use std::{io, thread};
-use urb_daemon::{ErrorOutput, Reports, Stage, StageReports, TEXT_ROOM};
+use urb_daemon::{ErrorOutput, ProgramStage, Reports, StageReports, TEXT_ROOM};
 use urb_worker::{Station, Watch};
 
 /// An output like a full pipe. Each write says that it has begun, and waits until it is let through.
@@ -196,23 +196,23 @@ fn a_start_or_a_stop_that_takes_long_says_each_second_how_far_it_is(
     let errors = ErrorOutput::start(rt, rt.alloc(), output).map_err(|_| "memory")?;
     for (stage, line) in [
         (
-            Stage::Journals,
+            ProgramStage::Journals,
             "urbd: starting for 2 s: opening the journals\n",
         ),
         (
-            Stage::Journals,
+            ProgramStage::Journals,
             "urbd: starting for 3 s: opening the journals\n",
         ),
         (
-            Stage::Records,
+            ProgramStage::Records,
             "urbd: starting for 4 s: reading the records of the journals\n",
         ),
         (
-            Stage::Sessions,
+            ProgramStage::Sessions,
             "urbd: stopping for 2 s: waiting for the sessions of clients\n",
         ),
         (
-            Stage::Files,
+            ProgramStage::Files,
             "urbd: stopping for 3 s: closing the journals\n",
         ),
     ] {
@@ -220,7 +220,7 @@ fn a_start_or_a_stop_that_takes_long_says_each_second_how_far_it_is(
         let told = written.recv(&rt).map_err(|_| "an end")?;
         assert_eq!(rt; told.as_str(), line);
     }
-    errors.reach(Stage::Quiet);
+    errors.reach(ProgramStage::Quiet);
     thread::sleep(&rt, Duration::from_millis(1_500));
     assert!(rt; eprintln!(&errors; "a line").is_ok());
     errors.finish();

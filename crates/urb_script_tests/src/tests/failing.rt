@@ -74,7 +74,7 @@ enum Outcome {
 
 /// Returns which of the three results it is, if it is one of them.
 fn outcome_of(
-    ended: &Result<Ended, RunFault>,
+    ended: &Result<RunEnd, RunFault>,
     script: &[u8],
     written: &[u8],
     answers: &[u8],
@@ -82,8 +82,8 @@ fn outcome_of(
 ) -> Option<Outcome> {
     match ended {
         Err(RunFault::NoMemory) if begins_lines(written, answers) => Some(Outcome::Ended),
-        Ok(Ended::Whole) if written == answers => Some(Outcome::Same),
-        Ok(Ended::Whole) => {
+        Ok(RunEnd::Whole) if written == answers => Some(Outcome::Same),
+        Ok(RunEnd::Whole) => {
             let at = first_other(written, answers);
             if !is_failed_store(line_at(script, at), line_at(written, at)) {
                 return None;
@@ -196,7 +196,7 @@ fn run_read(alloc: Global, failing: u64) -> Failed {
                 && writer.is_flushed()
         }
         // One byte per read, and one more read at the end.
-        Ok(Ended::Whole) => {
+        Ok(RunEnd::Whole) => {
             !met && written == SHORT_ANSWERS && reader.reads() == SHORT.len() as u64 + 1
         }
         _ => false,
@@ -250,7 +250,7 @@ fn run_write(alloc: Global, failing: u64) -> Failed {
             met && writer.failed_last() && is_read_so_far(reader.reads(), failing)
         }
         // Each answer takes a write, and a flush after it.
-        Ok(Ended::Whole) => {
+        Ok(RunEnd::Whole) => {
             !met && writer.written() == SHORT_ANSWERS
                 && writer.calls() == 8
                 && writer.flushes() == 4

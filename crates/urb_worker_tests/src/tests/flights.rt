@@ -6,14 +6,14 @@ use std::net::{Net, TcpListener, TcpStream};
 use std::sync::Wait;
 use std::test::Fail;
 use std::time::{Clock, Duration, Instant};
-use urb_names::NodeId;
+use urb_names::{MAX_PACKET, NodeId};
 use urb_worker::{
     BACKLOG, Backlog, CARRYING, FULL_BACKLOG, InFlight, KEEPING, LONG_BACKLOG, Link,
     MOST_IN_FLIGHT, MemoryLink, PacedLink, Station,
 };
 
 // The bytes of the longest packet.
-const LONGEST: usize = 16_403;
+const LONGEST: usize = MAX_PACKET;
 
 // How long a sender waits before it gives up, in milliseconds.
 const WAIT: u64 = 100;

@@ -9,11 +9,11 @@ use std::test::Fail;
 use std::thread;
 use std::thread::Threads;
 use std::time::{Clock, Duration};
-use urb_names::NodeId;
+use urb_names::{MAX_PACKET, NodeId};
 use urb_worker::{BACKLOG, Job, KEEPING, Link, PacedLink, Station, Stop, Ticket, UdpLink, receive};
 
 // The bytes of the longest packet.
-const LONGEST: usize = 16_403;
+const LONGEST: usize = MAX_PACKET;
 
 // The number of tickets that the channel has room for.
 const ROOM: usize = 4;

@@ -5,7 +5,7 @@ use Rattle.sqlite.specs.State.{HasCleanDisk, Shown}
 use Rattle.sqlite.specs.Held.{state}
 use Rattle.urb_sqlite.specs.internal.JournalStatements.{select_of}
 use Rattle.urb_sqlite.specs.RowReadings.{read_from, record_at}
-use Rattle.urb_sqlite.specs.declared.rows.ReadFault.TheVariants.{BadRow}
+use Rattle.urb_sqlite.specs.declared.rows.TableFault.TheVariants.{BadRow}
 use Rattle.urb_sqlite.proofs.SpelledRows.{found_in}
 use Rattle.urb_sqlite.proofs.TableReadings.{survives_both, earlier}
 use Rattle.urb_sqlite.proofs.CursorReads.{start_stops, reads_none, refused_stops, refused_left}
