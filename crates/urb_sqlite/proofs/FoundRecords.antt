@@ -19,7 +19,7 @@ found_as_held image is_clean is_honest found records finds (inl holds) clean =
     let it = finds.adopted clean holds.0 holds.1 base in (
       it.0,
       sym (records_are (base_of base) found it.1)
-      ∙ records_are (base_of base) records holds.2.1,
+          ∙ records_are (base_of base) records holds.2.1,
     )
 found_as_held image is_clean is_honest found records finds (inr none) clean =
     let it : is_honest × (found ≡ []) =
