@@ -15,7 +15,7 @@ ghost use Rattle.urb_group.specs.Acceptance.{HasStored};
 ghost use Rattle.urb_group.specs.GroupViews.{GroupView, IsSound, Shows};
 ghost use Rattle.urb_group.specs.Step.{Submit, step};
 ghost use Rattle.urb_group.specs.StoreContents.{WouldLeave};
-ghost use Rattle.urb_group.specs.World.{World, image_of, opened, stored};
+ghost use Rattle.urb_group.specs.World.{World, image_of, opened, started, stored};
 ghost use Rattle.urb_sqlite.specs.FoundJournals.{HoldsRecords};
 ghost use Rattle.urb_folder.specs.StoppedFiles.{HasLeft, HoldsStopped};
 ghost use Rattle.urb_daemon.specs.Lives.{Lives, OpensAfter};
@@ -37,6 +37,14 @@ pub fn nothing_is_lost_over_any_number_of_starts()
         IsSound old → Shows old w → Lives w v → OpensAfter v size images group →
         IsTrue (is_node v.size.n p) → HasStored w p x m →
         (step (opened size (image_of images)) (Submit p m)).0 ≡ Same (Accepted x) }
+{}
+
+/// A first start takes files without a byte: they are what a stop leaves of a new group.
+pub fn empty_files_are_those_of_a_new_group()
+    ensures { (held : ℕ → Image) (group : GroupView) (size : Limits) →
+        IsSound group → length group.nodes ≡ group.size.n → Shows group (started size) →
+        ((i : ℕ) → i < size.n → (held (suc i)).db ≡ []) →
+        HasLeft held group (started size) size }
 {}
 
 /// What a stop leaves is what the next start takes. The process stopped in a world that its group
