@@ -60,7 +60,7 @@ WRITTEN: Written = {
         "crates/urb_worker_tests/src/tests/hearing.rt": 1,
         "crates/urb_worker_tests/src/tests/sevens.rt": 2,
         "crates/urb_worker_tests/src/tests/timers.rt": 1,
-        "docs/ARCHITECTURE.md": 4,
+        "docs/ARCHITECTURE.md": 2,
         "docs/DECISIONS.md": 2,
         "docs/GUARANTEES.md": 4,
         "docs/OPERATIONS.md": 1,
