@@ -14,15 +14,24 @@ from tools.checks.limits import Constants
 from tools.tree import Misfit, Tree
 
 # The constants that other files write, and where they are declared.
+OPTIONS = ("urb_cli", "src/limits.rt")
 DECLARED: Mapping[str, tuple[str, str]] = {
     "MAX_NODES": ("urb_names", "src/limits.rt"),
     "MAX_PAYLOAD": ("urb_names", "src/limits.rt"),
+    "MAX_CAP": ("urb_names", "src/limits.rt"),
     "MAX_PACKET": ("urb_names", "src/spelling.rt"),
     "MOST_ENTRIES": ("urb_client", "src/format.rt"),
     "LONGEST_REQUEST": ("urb_client", "src/format.rt"),
     "LONGEST_LINE": ("urb_script", "src/input.rt"),
     "LONGEST_IN_SECOND": ("urb_sqlite", "src/sql.rt"),
     "ROOM": ("urb_worker", "src/receiver.rt"),
+    "MIN_BASE_PORT": OPTIONS,
+    "MAX_BASE_PORT": OPTIONS,
+    "MAX_TICK_MILLIS": OPTIONS,
+    "MIN_CONNECTIONS": OPTIONS,
+    "MAX_CONNECTIONS": OPTIONS,
+    "MAX_IDLE_MINUTES": OPTIONS,
+    "STANDARD_IDLE_MINUTES": OPTIONS,
 }
 
 # A value, as a constant and what is added to it; then the words in which it stands. There `#` is
@@ -140,6 +149,69 @@ WRITTEN: Written = {
     ("LONGEST_REQUEST + 1", "#"): {"clients/python/tests/test_frames.py": 1},
     ("LONGEST_LINE", "line of at most # bytes"): {"docs/ARCHITECTURE.md": 1},
     ("ROOM", "#"): {"docs/ARCHITECTURE.md": 1, "docs/FORMATS.md": 1},
+    # The ranges of other options.
+    ("MAX_CAP", "1 to #"): {
+        "contrib/package/urbd.1": 1,
+        "crates/urb_cli/src/command_line/grammar.rt": 1,
+        "docs/FORMATS.md": 2,
+        "docs/OPERATIONS.md": 1,
+    },
+    ("MIN_BASE_PORT", "# to"): {
+        "contrib/package/completions/_urbd": 1,
+        "contrib/package/completions/urbd.fish": 1,
+        "contrib/package/urbd.1": 1,
+        "crates/urb_cli/src/command_line/grammar.rt": 2,
+        "docs/FORMATS.md": 1,
+        "docs/OPERATIONS.md": 1,
+    },
+    ("MAX_BASE_PORT", " to #"): {
+        "contrib/package/completions/_urbd": 1,
+        "contrib/package/completions/urbd.fish": 1,
+        "contrib/package/urbd.1": 1,
+        "crates/urb_cli/src/command_line/grammar.rt": 2,
+        "docs/FORMATS.md": 1,
+        "docs/OPERATIONS.md": 1,
+    },
+    ("MAX_TICK_MILLIS", "1 to #"): {
+        "contrib/package/urbd.1": 1,
+        "crates/urb_cli/src/command_line/grammar.rt": 1,
+        "docs/FORMATS.md": 1,
+        "docs/OPERATIONS.md": 1,
+    },
+    ("MIN_CONNECTIONS", "# to 1"): {
+        "contrib/package/completions/_urbd": 1,
+        "contrib/package/completions/urbd.fish": 1,
+        "contrib/package/urbd.1": 1,
+        "crates/urb_cli/src/command_line/grammar.rt": 1,
+        "docs/FORMATS.md": 1,
+        "docs/OPERATIONS.md": 1,
+    },
+    ("MAX_CONNECTIONS", "4 to #"): {
+        "contrib/package/completions/_urbd": 1,
+        "contrib/package/completions/urbd.fish": 1,
+        "contrib/package/urbd.1": 1,
+        "crates/urb_cli/src/command_line/grammar.rt": 1,
+        "docs/FORMATS.md": 1,
+        "docs/OPERATIONS.md": 1,
+    },
+    ("MAX_CONNECTIONS", "otherwise #"): {
+        "contrib/package/urbd.1": 1,
+        "crates/urb_cli/src/command_line/grammar.rt": 1,
+        "docs/FORMATS.md": 1,
+        "docs/OPERATIONS.md": 1,
+    },
+    ("MAX_IDLE_MINUTES", "1 to #"): {
+        "contrib/package/urbd.1": 1,
+        "crates/urb_cli/src/command_line/grammar.rt": 1,
+        "docs/FORMATS.md": 1,
+        "docs/OPERATIONS.md": 1,
+    },
+    ("STANDARD_IDLE_MINUTES", "otherwise #"): {
+        "contrib/package/urbd.1": 1,
+        "crates/urb_cli/src/command_line/grammar.rt": 1,
+        "docs/FORMATS.md": 1,
+        "docs/OPERATIONS.md": 1,
+    },
 }
 
 FILES = (
