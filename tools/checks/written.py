@@ -14,15 +14,24 @@ from tools.checks.limits import Constants
 from tools.tree import Misfit, Tree
 
 # The constants that other files write, and where they are declared.
+OPTIONS = ("urb_cli", "src/limits.rt")
 DECLARED: Mapping[str, tuple[str, str]] = {
     "MAX_NODES": ("urb_names", "src/limits.rt"),
     "MAX_PAYLOAD": ("urb_names", "src/limits.rt"),
+    "MAX_CAP": ("urb_names", "src/limits.rt"),
     "MAX_PACKET": ("urb_names", "src/spelling.rt"),
     "MOST_ENTRIES": ("urb_client", "src/format.rt"),
     "LONGEST_REQUEST": ("urb_client", "src/format.rt"),
     "LONGEST_LINE": ("urb_script", "src/input.rt"),
     "LONGEST_IN_SECOND": ("urb_sqlite", "src/sql.rt"),
     "ROOM": ("urb_worker", "src/receiver.rt"),
+    "MIN_BASE_PORT": OPTIONS,
+    "MAX_BASE_PORT": OPTIONS,
+    "MAX_TICK_MILLIS": OPTIONS,
+    "MIN_CONNECTIONS": OPTIONS,
+    "MAX_CONNECTIONS": OPTIONS,
+    "MAX_IDLE_MINUTES": OPTIONS,
+    "STANDARD_IDLE_MINUTES": OPTIONS,
 }
 
 # A value, as a constant and what is added to it; then the words in which it stands. There `#` is
@@ -51,18 +60,22 @@ WRITTEN: Written = {
     ("MAX_NODES", "@ nodes"): {
         "README.md": 1,
         "crates/urb_daemon_tests/src/tests/groups.rt": 1,
+        "crates/urb_daemon_tests/src/tests/restarts.rt": 1,
         "crates/urb_feed_tests/src/tests.rt": 1,
+        "crates/urb_group/src/worked/names.rt": 1,
         "crates/urb_group/src/worked/premises.rt": 1,
+        "crates/urb_group/src/worked/records.rt": 3,
         "crates/urb_group/src/worked/recovery_words.rt": 1,
-        "crates/urb_show_tests/src/tests.rt": 1,
-        "crates/urb_show_tests/src/tests/seven.rt": 3,
+        "crates/urb_show_tests/src/tests.rt": 4,
+        "crates/urb_show_tests/src/tests/seven.rt": 4,
         "crates/urb_sqlite/src/node_file.rt": 1,
-        "crates/urb_worker_tests/src/tests/hearing.rt": 1,
-        "crates/urb_worker_tests/src/tests/sevens.rt": 2,
-        "crates/urb_worker_tests/src/tests/timers.rt": 1,
-        "docs/ARCHITECTURE.md": 4,
+        "crates/urb_worker_tests/src/tests/groups.rt": 1,
+        "crates/urb_worker_tests/src/tests/hearing.rt": 2,
+        "crates/urb_worker_tests/src/tests/sevens.rt": 3,
+        "crates/urb_worker_tests/src/tests/timers.rt": 2,
+        "docs/ARCHITECTURE.md": 2,
         "docs/DECISIONS.md": 2,
-        "docs/GUARANTEES.md": 4,
+        "docs/GUARANTEES.md": 5,
         "docs/OPERATIONS.md": 1,
     },
     ("MAX_NODES", "nodes, which is @"): {"docs/GUARANTEES.md": 1},
@@ -140,6 +153,69 @@ WRITTEN: Written = {
     ("LONGEST_REQUEST + 1", "#"): {"clients/python/tests/test_frames.py": 1},
     ("LONGEST_LINE", "line of at most # bytes"): {"docs/ARCHITECTURE.md": 1},
     ("ROOM", "#"): {"docs/ARCHITECTURE.md": 1, "docs/FORMATS.md": 1},
+    # The ranges of other options.
+    ("MAX_CAP", "1 to #"): {
+        "contrib/package/urbd.1": 1,
+        "crates/urb_cli/src/command_line/grammar.rt": 1,
+        "docs/FORMATS.md": 2,
+        "docs/OPERATIONS.md": 1,
+    },
+    ("MIN_BASE_PORT", "# to"): {
+        "contrib/package/completions/_urbd": 1,
+        "contrib/package/completions/urbd.fish": 1,
+        "contrib/package/urbd.1": 1,
+        "crates/urb_cli/src/command_line/grammar.rt": 2,
+        "docs/FORMATS.md": 1,
+        "docs/OPERATIONS.md": 1,
+    },
+    ("MAX_BASE_PORT", " to #"): {
+        "contrib/package/completions/_urbd": 1,
+        "contrib/package/completions/urbd.fish": 1,
+        "contrib/package/urbd.1": 1,
+        "crates/urb_cli/src/command_line/grammar.rt": 2,
+        "docs/FORMATS.md": 1,
+        "docs/OPERATIONS.md": 1,
+    },
+    ("MAX_TICK_MILLIS", "1 to #"): {
+        "contrib/package/urbd.1": 1,
+        "crates/urb_cli/src/command_line/grammar.rt": 1,
+        "docs/FORMATS.md": 1,
+        "docs/OPERATIONS.md": 1,
+    },
+    ("MIN_CONNECTIONS", "# to 1"): {
+        "contrib/package/completions/_urbd": 1,
+        "contrib/package/completions/urbd.fish": 1,
+        "contrib/package/urbd.1": 1,
+        "crates/urb_cli/src/command_line/grammar.rt": 1,
+        "docs/FORMATS.md": 1,
+        "docs/OPERATIONS.md": 1,
+    },
+    ("MAX_CONNECTIONS", "4 to #"): {
+        "contrib/package/completions/_urbd": 1,
+        "contrib/package/completions/urbd.fish": 1,
+        "contrib/package/urbd.1": 1,
+        "crates/urb_cli/src/command_line/grammar.rt": 1,
+        "docs/FORMATS.md": 1,
+        "docs/OPERATIONS.md": 1,
+    },
+    ("MAX_CONNECTIONS", "otherwise #"): {
+        "contrib/package/urbd.1": 1,
+        "crates/urb_cli/src/command_line/grammar.rt": 1,
+        "docs/FORMATS.md": 1,
+        "docs/OPERATIONS.md": 1,
+    },
+    ("MAX_IDLE_MINUTES", "1 to #"): {
+        "contrib/package/urbd.1": 1,
+        "crates/urb_cli/src/command_line/grammar.rt": 1,
+        "docs/FORMATS.md": 1,
+        "docs/OPERATIONS.md": 1,
+    },
+    ("STANDARD_IDLE_MINUTES", "otherwise #"): {
+        "contrib/package/urbd.1": 1,
+        "crates/urb_cli/src/command_line/grammar.rt": 1,
+        "docs/FORMATS.md": 1,
+        "docs/OPERATIONS.md": 1,
+    },
 }
 
 FILES = (
@@ -169,6 +245,8 @@ LEFT_OUT = frozenset(
         "contrib/ctl/urbdctl/limits.py",
     )
 )
+# What may be between two words: a space, the end of a line of a comment, or a sign in a name.
+BETWEEN = r"(?:[\s_]|//[/!]?|--)+"
 WORDS = ("no", "one", "two", "three", "four", "five", "six", "seven", "eight", "nine", "ten")
 
 
@@ -189,7 +267,7 @@ def pattern_of(words: str, value: int) -> str:
         "~": rf"(?<!\d )\b{numbers}\b(?! \d)",
     }
     parts = (signs.get(part, re.escape(part)) for part in re.split("([#@~])", words))
-    return "".join(parts).replace(r"\ ", r"\s+")
+    return "".join(parts).replace(r"\ ", BETWEEN)
 
 
 def files_of(tree: Tree) -> dict[str, str]:

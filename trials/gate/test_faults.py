@@ -12,7 +12,7 @@ from contextlib import contextmanager, suppress
 from dataclasses import replace
 from pathlib import Path
 
-from urbd.constants import Refusal
+from urbd.constants import MAX_NODES, Refusal
 from urbd.errors import RefusedError
 
 from trials.gate.cases import Case
@@ -212,7 +212,7 @@ class Descriptors(Case):
         return True
 
     def test_a_group_opens_and_serves_or_says_why_not(self) -> None:
-        for nodes, few, enough in ((1, 6, 64), (3, 16, 128), (7, 40, 256)):
+        for nodes, few, enough in ((1, 6, 64), (3, 16, 128), (MAX_NODES, 40, 256)):
             with self.subTest(nodes=nodes):
                 options = self.options(f"group-{nodes}", nodes)
                 self.assertFalse(self.opens_with(options, few), f"{few} descriptors are too few")

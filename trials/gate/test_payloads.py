@@ -3,7 +3,7 @@ from __future__ import annotations
 
 import unittest
 
-from urbd.constants import MAX_PAYLOAD, Refusal
+from urbd.constants import LONGEST_REQUEST, MAX_PAYLOAD, SUBMIT_HEAD, Refusal
 from urbd.frames import Entries, Read, Refused, Submit
 
 from trials.gate.cases import Case
@@ -47,7 +47,7 @@ class Payloads(Case):
     def test_a_payload_that_is_too_long_is_refused(self) -> None:
         with self.program.serve(self.options()) as daemon:
             with daemon.connect(1) as connection:
-                for length in (MAX_PAYLOAD + 1, MAX_PAYLOAD + 209):
+                for length in (MAX_PAYLOAD + 1, LONGEST_REQUEST - 1 - SUBMIT_HEAD):
                     response = connection.ask(Submit(CLIENT, 1, bytes(length)))
                     self.assertEqual(response, [Refused(Refusal.TOO_LONG, 0)])
             self.assertEqual(daemon.node(1).status().accepted, 0)

@@ -17,14 +17,20 @@ use std::alloc::Global;
 use std::net::{Ipv4Addr, Net, TcpListener, TcpStream, UdpSocket};
 use std::rt::Files;
 use urb_cli::{
-    CLIENT_PORT_OFFSET, DoorOptions, MAX_CONNECTIONS, MIN_CONNECTIONS, ServeOptions, ServiceOptions,
+    CLIENT_PORT_OFFSET, DoorOptions, MAX_CONNECTIONS, MIN_CONNECTIONS, STANDARD_IDLE_MINUTES,
+    ServeOptions, ServiceOptions,
 };
-use urb_worker::{ClientLimits, LEAST_CONNECTIONS, MOST_CONNECTIONS, Station, UdpLink};
+use urb_worker::{
+    ClientLimits, IDLE_MINUTES, LEAST_CONNECTIONS, MOST_CONNECTIONS, Station, UdpLink,
+};
 
 // The range of the option is that of the nodes.
 const _: () = prove!(MIN_CONNECTIONS as usize == LEAST_CONNECTIONS);
 
 const _: () = prove!(MAX_CONNECTIONS as usize == MOST_CONNECTIONS);
+
+// What holds without the option is what holds for a node of which nothing else is said.
+const _: () = prove!(STANDARD_IDLE_MINUTES as u32 == IDLE_MINUTES);
 
 /// What connects the nodes of a group with each other and with their clients.
 #[derive(Drop)]

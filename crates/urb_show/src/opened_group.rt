@@ -26,8 +26,8 @@ use std::marker::{Brand, Model};
 use std::sync::Wait;
 use urb_group::{Group, NoMemory, NodeId, Refusal};
 
-/// The number of readers that a house has for each of its nodes. So it is also the number of client
-/// sessions that a node can have at a time.
+/// The number of readers that a house has for each of its nodes. So it is also the number of reads
+/// of a node that can be under way at a time. All sessions of clients share the readers.
 pub const READERS: usize = 4;
 
 /// A group with an open book, which is not published yet. `parts` gives it a name and makes a house

@@ -13,11 +13,15 @@ use std::thread::{Builder, Scope};
 use std::time::{Clock, Duration};
 use urb_client::{BufferedAnswers, Response, encode_response, session};
 use urb_local::LocalStream;
-use urb_names::{NoMemory, Refusal};
+use urb_names::{MAX_PAYLOAD, NoMemory, Refusal};
 use urb_show::HouseName;
 
 // The size of the stack of a session's thread, in bytes.
 const STACK: usize = 262_144;
+
+// A session has the longest request on its stack. That has little more than the longest payload, and
+// leaves three quarters of the stack free.
+const _: () = prove!(4 * MAX_PAYLOAD <= STACK);
 
 // How long a client may leave an answer unread before its connection is closed, in milliseconds.
 const UNREAD_MILLIS: u64 = 10_000;

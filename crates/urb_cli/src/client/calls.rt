@@ -18,8 +18,8 @@ use std::time::Duration;
 use urb_client::{Request, Response, encode_request, read_response};
 use urb_local::LocalStream;
 
-// How long a patient connection waits for a node, in seconds.
-const PATIENCE: u64 = 10;
+/// How long a patient connection waits for a node, in seconds.
+pub(crate) const PATIENCE: u64 = 10;
 
 // Connects to an address of this machine. An error is the system's.
 fn connect_to<R: Net<Listener = TcpListener, Stream = TcpStream>>(

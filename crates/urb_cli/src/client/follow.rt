@@ -14,7 +14,7 @@ ghost use Rattle.urb_cli.specs.internal.Following.{IsPrinted, Turns};
 
 use crate::client::call_fault::CallFault;
 use crate::client::caller::{Caller, insist};
-use crate::client::calls::send;
+use crate::client::calls::{PATIENCE, send};
 use crate::client::entry_form::push_page_in;
 use crate::client::entry_form_kind::EntryForm;
 use crate::client::follow_turn::FollowTurn;
@@ -34,6 +34,9 @@ use urb_names::{Message, Name};
 
 /// How long a node may wait for the next entry before it answers, in milliseconds.
 const WAIT_MILLIS: u16 = 5_000;
+
+// A node that has no entry answers before the connection gives it up.
+const _: () = prove!(WAIT_MILLIS as u64 <= 1_000 * PATIENCE / 2);
 
 /// The number of the refusal of a request that the node doesn't know.
 const UNKNOWN_REQUEST: u8 = 19;
