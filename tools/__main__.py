@@ -6,6 +6,7 @@
     python3 -m tools believed       says which definitions a reader has to believe
     python3 -m tools wrong-bodies   tries the edits of crates/NAME/wrong-bodies
     python3 -m tools weaken         makes wrong versions of definitions, and tries them
+    python3 -m tools wrong-definitions  tries those again that a page lists as refused
     python3 -m tools lint           checks the Python code by mypy, black and flake8
     python3 -m tools draw           draws a script's run, or compares the pictures of docs/pictures
     python3 -m tools dashboard      draws the dashboard of a run (docs/pictures/dashboard.svg)
@@ -30,6 +31,7 @@ from tools import (
     lint,
     weaken,
     wrong_bodies,
+    wrong_definitions,
 )
 
 TOOLS: dict[str, Callable[[Sequence[str]], int]] = {
@@ -39,6 +41,7 @@ TOOLS: dict[str, Callable[[Sequence[str]], int]] = {
     "believed": believed.main,
     "wrong-bodies": wrong_bodies.main,
     "weaken": weaken.main,
+    "wrong-definitions": wrong_definitions.main,
     "lint": lint.main,
     "draw": draw.main,
     "dashboard": dashboard.main,

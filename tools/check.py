@@ -10,7 +10,7 @@ import argparse
 import re
 from collections.abc import Callable, Iterable, Iterator, Sequence
 
-from tools import believed, definitions
+from tools import believed, definitions, wrong_definitions
 from tools.checks import (
     edits,
     files,
@@ -65,6 +65,7 @@ CHECKS: tuple[Callable[[Tree], Iterable[Misfit]], ...] = (
     sources.contracts,
     sentences_of_specs,
     believed_definitions,
+    wrong_definitions.listed_versions,
     lemmas.sentences_of_lemmas,
     lemmas.heads_of_proofs,
     lemmas.names_of_files,

@@ -6,9 +6,10 @@
 The quick steps come first: documents, the layout of Python code, unit tests. If one of them fails,
 the run ends there, since the proofs may take two hours. Then a part of the wrong bodies is added to
 the must-fail edits; the hash of crates/ chooses it. Then `rt ci` runs: every proof whose text this
-machine hasn't proved before, the edits, the tests and the program. At the end the built program is
-tried as a user would use it (trials/gate). What a step needs and isn't installed is left out, with
-a line.
+machine hasn't proved before, the edits, the tests and the program. Then a part of the wrong
+definitions is tried again, with the libraries that it built. The same hash chooses the part. At the
+end the built program is tried as a user would use it (trials/gate). What a step needs and isn't
+installed is left out, with a line.
 """
 from __future__ import annotations
 
@@ -160,6 +161,12 @@ def prove(tree: Tree) -> Count:
         wrong_bodies.clear(tree)
 
 
+def try_definitions(tree: Tree) -> Count:
+    """Tries a part of the wrong definitions, by the libraries that `rt ci` built."""
+    words = [sys.executable, "-m", "tools", "wrong-definitions", "--part"]
+    return run_step(tree, Step("wrong definitions", words))
+
+
 def try_program(tree: Tree) -> Count:
     """Tries the program that `rt ci` built."""
     if not tree.has(PROGRAM):
@@ -184,6 +191,7 @@ def main(words: Sequence[str], tree: Tree = Tree()) -> int:
     total = run_steps(tree, quick_steps(tree))
     if not is_quick and not total.failed:
         total.add(prove(tree))
+        total.add(try_definitions(tree))
         total.add(try_program(tree))
     elif not is_quick:
         print("gate: a quick step failed, so the proofs and the trials aren't begun")

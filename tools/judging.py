@@ -14,8 +14,10 @@ A clause of an example counts as refusing a version only if another proof wouldn
 """
 from __future__ import annotations
 
+import os
 import re
 import shutil
+import signal
 import subprocess
 from collections.abc import Iterable, Iterator, Sequence
 from dataclasses import dataclass, field
@@ -194,8 +196,7 @@ class Trial:
         found = [it for it in dict.fromkeys(self.failed) if it in self.counting]
         found.sort(key=lambda it: it not in self.searched)
         return [
-            f"`{it[0]}::{it[1]}` {it[2]}".rstrip() + ("" if it in self.searched else " *")
-            for it in found
+            f"`{it[0]}::{it[1]}`, `{it[2]}`" + ("" if it in self.searched else " *") for it in found
         ]
 
 
@@ -349,23 +350,42 @@ class Room:
         path = self.folder / name
         path.write_text(path.read_text() + line)
 
-    def check(self, trials: Sequence[Trial], prefix: Sequence[str]) -> str:
-        """Checks the copies, notes which of their clauses failed, and gives what the check said."""
+    def check(self, trials: Sequence[Trial], prefix: Sequence[str] = ()) -> Run:
+        """Checks the copies, and notes which of their clauses failed."""
         self.clear()
         only = [function for trial in trials for function in self.write(trial)]
         words = [*prefix, "rt", "check", "--allow-holes", "--jobs", "1"]
         words += [word for path in only for word in ("--only", path)]
-        run = subprocess.run(
-            words,
-            cwd=self.folder,
-            stdout=subprocess.PIPE,
-            stderr=subprocess.STDOUT,
-            text=True,
-            errors="replace",
-            timeout=SECONDS,
-        )
-        note(self.folder, trials, run.stdout)
-        return run.stdout
+        run = run_within(words, self.folder, SECONDS)
+        note(self.folder, trials, run.said)
+        return run
+
+
+@dataclass(frozen=True)
+class Run:
+    """What a command said, and how it ended."""
+
+    said: str
+    status: int
+
+
+def run_within(words: Sequence[str], folder: Path, seconds: int) -> Run:
+    """Runs a command. If it takes longer, or somebody ends this run, its processes end too."""
+    with subprocess.Popen(
+        words,
+        cwd=folder,
+        stdout=subprocess.PIPE,
+        stderr=subprocess.STDOUT,
+        text=True,
+        errors="replace",
+        start_new_session=True,
+    ) as process:
+        try:
+            said, _ = process.communicate(timeout=seconds)
+        except BaseException:
+            os.killpg(process.pid, signal.SIGKILL)
+            raise
+    return Run(said, process.returncode)
 
 
 def blocks_of(proof: str) -> dict[str, str]:

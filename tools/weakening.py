@@ -25,7 +25,11 @@ FEW_NODES = 3
 ALWAYS, NEVER = "Unit {0}", "⊥"  # a claim of nothing, and one that is false
 SHORT_PAYLOAD = 1000
 
-RELATION = re.compile(r"≡|≢|≤|(?<![-<])<(?!-)|∈|IsTrue|⊎")
+# A relation, or a claim of the libraries that stands at the beginning of a text.
+RELATION = re.compile(
+    r"≡|≢|≤|(?<![-<])<(?!-)|∈|IsTrue|⊎"
+    r"|^\s*\(*(?:IsPrefix|All|AllByRecursion|Contains|IfOk|IfErr|OnOk|OnErr|IsSomeAnd|MatchBool)\b"
+)
 HEADER = re.compile(r"(\s*)(?:\w+ )*?pub (?:record|data) ")
 FIELD = re.compile(r"(\s+)pub (\w+) : (.*)", re.DOTALL)
 # A parameter that has a number of nodes, and how a text speaks of that number.
@@ -83,8 +87,12 @@ class Block:
 
     @property
     def is_claim(self) -> bool:
-        """Whether an abbreviation says that something is so."""
-        return not self.fields and self.kind.startswith("Type")
+        """Whether an abbreviation says that something is so. It may only name a type of values."""
+        if self.fields or not self.kind.startswith("Type"):
+            return False
+        is_relation = len(split_at(self.head.partition(" : ")[2], "→")) > 1
+        rights = [it.right for it in self.equations]
+        return is_relation or any(RELATION.search(it) or PARAMETER.search(it) for it in rights)
 
 
 def without_margin(text: str) -> tuple[str, str]:
@@ -160,6 +168,18 @@ def split_at(text: str, sign: str) -> list[str]:
     return [*parts, text[begin:]]
 
 
+def is_binder(part: str) -> bool:
+    """Whether a part of a product names a value of some type: `(x : T)`."""
+    if not re.match(r"\([^():]+ : ", part):
+        return False
+    depth = 0
+    for at, it in enumerate(part):
+        depth += (it in OPEN) - (it in CLOSE)
+        if depth == 0:
+            return at == len(part) - 1
+    return False
+
+
 def is_apart(text: str, at: int, sign: str) -> bool:
     before, after = text[at - 1 : at], text[at + len(sign) : at + len(sign) + 1]
     return before.isspace() and (after.isspace() or not after)
@@ -176,7 +196,12 @@ def replaced(parts: Sequence[str], at: int, new: str, sign: str) -> str:
 def shown(text: str) -> str:
     """A part of a text, short enough for a line."""
     plain = " ".join(text.split())
-    return plain if len(plain) <= 50 else f"{plain[:47]}.."
+    return f"`{plain}`" if len(plain) <= 50 else f"`{plain[:47]}..`"
+
+
+def in_case(block: Block, at: int) -> str:
+    """Words that say in which case something is wrong, if there are several."""
+    return f" in case {at + 1}" if len(block.equations) > 1 else ""
 
 
 class Rules:
@@ -219,20 +244,21 @@ class Rules:
                 new = f"{field.group(1)}pub {field.group(2)} : Unit {{0}}"
                 yield "unit", f"`{field.group(2)}` says nothing", with_field(block, at, new), ()
         for at, case in enumerate(block.equations):
+            *premises, conclusion = split_at(case.right, "→")
             for sign, nothing, need in (("×", "Unit {0}", ()), ("&&", "true", ("true",))):
-                parts = split_at(case.right, sign)
+                parts = split_at(conclusion, sign) if sign == "&&" or block.is_claim else []
                 for place, part in enumerate(parts if len(parts) > 1 else ()):
-                    if PARAMETER.fullmatch(part.strip()):
+                    if is_binder(part.strip()):
                         continue
-                    what = f"without {shown(part)}"
-                    right = replaced(parts, place, nothing, sign)
+                    what = f"without {shown(part)}{in_case(block, at)}"
+                    right = "→".join([*premises, replaced(parts, place, nothing, sign)])
                     yield "unit", what, with_case(block, at, right), need
 
     def premise(self, definition: Definition, block: Block) -> Iterator[Change]:
         """A premise is left out."""
         for at, case in enumerate(block.equations if block.is_claim else ()):
             for what, right in self.without_premises(case.right):
-                yield "premise", what, with_case(block, at, right), ()
+                yield "premise", what + in_case(block, at), with_case(block, at, right), ()
         for at, it in enumerate(block.fields):
             field = FIELD.match(it)
             if field:
@@ -262,11 +288,13 @@ class Rules:
                 if size.partition(".")[0] in NAME.findall(case.left):
                     false = f"({limit}) × ({case.right})"
                     nothing = f"{limit} → ({case.right})"
-                    told = "says nothing of four nodes"
+                    where = in_case(block, at)
                     if case.right != NEVER:
-                        yield "few", "false of four nodes", with_case(block, at, false), ("◌≤◌",)
+                        what = f"false of four nodes{where}"
+                        yield "few", what, with_case(block, at, false), ("◌≤◌",)
                     if case.right != ALWAYS:
-                        yield "few", told, with_case(block, at, nothing), ("◌≤◌",)
+                        what = f"says nothing of four nodes{where}"
+                        yield "few", what, with_case(block, at, nothing), ("◌≤◌",)
         yield from self.few_of_a_test(block)
         yield from self.short_payloads(block)
 
@@ -277,9 +305,11 @@ class Rules:
             if size and size.partition(".")[0] in NAME.findall(case.left):
                 no = f"nat_lt {size} {FEW_NODES + 1} && ({case.right})"
                 yes = f"if nat_lt {FEW_NODES} {size} then true else ({case.right})"
-                yield "few", "false of four nodes", with_case(block, at, no), ("nat_lt", "◌&&◌")
+                where = in_case(block, at)
+                what = f"false of four nodes{where}"
+                yield "few", what, with_case(block, at, no), ("nat_lt", "◌&&◌")
                 needs = ("nat_lt", "true", "if◌then◌else◌")
-                yield "few", "true of four nodes", with_case(block, at, yes), needs
+                yield "few", f"true of four nodes{where}", with_case(block, at, yes), needs
 
     def limited(self, block: Block, limit: str) -> Block:
         """A record whose claims have this premise."""
@@ -297,7 +327,7 @@ class Rules:
         for at, case in enumerate(block.equations if block.is_claim else ()):
             right = short_only(case.right)
             if right:
-                yield "few", told, with_case(block, at, right), needs
+                yield "few", told + in_case(block, at), with_case(block, at, right), needs
         for at, it in enumerate(block.fields):
             field = FIELD.match(it)
             short = short_only(field.group(3)) if field else None
@@ -307,7 +337,8 @@ class Rules:
 
     def one(self, definition: Definition, block: Block) -> Iterator[Change]:
         """A list has its first entry at most."""
-        if block.equations and block.kind.startswith("List "):
+        is_list = block.kind.startswith("List ") and len(split_at(block.kind, "×")) == 1
+        if block.equations and is_list:
             cases = tuple(replace(it, right=f"take 1 ({it.right})") for it in block.equations)
             yield "one", "the first entry alone", replace(block, equations=cases), ("take",)
 
@@ -325,7 +356,7 @@ class Rules:
             if choice and "if " not in choice.group(1) + choice.group(2):
                 test, yes, no = choice.groups()
                 right = f"if {test} then {no.strip()} else {yes.strip()}"
-                what = f"the sides of `if {shown(test)}` are exchanged"
+                what = f"the sides of {shown(f'if {test}')} are exchanged{in_case(block, at)}"
                 yield "exchange", what, with_case(block, at, right), ()
 
 

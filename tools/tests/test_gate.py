@@ -67,15 +67,30 @@ class Gates(TreeTest):
         steps = [Step("documents", telling("20 passed, 0 failed"))]
         with mock.patch.object(gate, "prove", return_value=Count(40, 0)):
             with mock.patch.object(gate, "run_step", wraps=gate.run_step) as run:
-                run.side_effect = [Count(20, 0), Count(5, 1)]
+                run.side_effect = [Count(20, 0), Count(12, 0), Count(5, 1)]
                 status, told = self.run_gate({gate.PROGRAM: ""}, steps)
         self.assertEqual(status, 1)
-        self.assertTrue(told.endswith("65 passed, 1 failed\n"), told)
+        self.assertTrue(told.endswith("77 passed, 1 failed\n"), told)
+        names = [call.args[1].name for call in run.call_args_list]
+        self.assertEqual(names, ["documents", "wrong definitions", "the built program"])
+
+    def test_a_wrong_definition_that_passes_fails_the_gate(self) -> None:
+        with mock.patch.object(gate, "prove", return_value=Count(40, 0)):
+            with mock.patch.object(gate, "try_definitions", return_value=Count(11, 1)):
+                with mock.patch.object(gate, "try_program", return_value=Count(5, 0)):
+                    status, told = self.run_gate({}, [])
+        self.assertEqual((status, told.splitlines()[-1]), (1, "56 passed, 1 failed"))
 
     def test_without_a_program_the_gate_fails(self) -> None:
         with mock.patch.object(gate, "prove", return_value=Count(40, 0)):
-            status, told = self.run_gate({}, [])
+            with mock.patch.object(gate, "try_definitions", return_value=Count()):
+                status, told = self.run_gate({}, [])
         self.assertEqual((status, told.splitlines()[-1]), (1, "40 passed, 1 failed"))
+
+    def test_quick_tries_no_wrong_definition(self) -> None:
+        with mock.patch.object(gate, "try_definitions", side_effect=AssertionError):
+            status, told = self.run_gate({}, [], "--quick")
+        self.assertEqual((status, told), (0, "0 passed, 0 failed\n"))
 
     def test_the_sample_is_cleared_even_if_rt_fails(self) -> None:
         tree = self.tree({"crates/a/must-fail/sample_x.edit": ""})

@@ -155,11 +155,11 @@ class Reports(JudgingTest):
         place = "proofs/worked/wrong7_runs/what_is_so/Answers.antt:9:1: error"
         self.assertEqual(self.note(f"./{place}: `helper`: no").refusers(), [])
         trial = self.note(f"./{place}: `returns-clause-of_none`: no")
-        self.assertEqual(trial.refusers(), ["`runs::what_is_so` of_none *"])
+        self.assertEqual(trial.refusers(), ["`runs::what_is_so`, `of_none` *"])
 
     def test_a_clause_that_no_tactic_proved(self) -> None:
         line = "note: src/worked/wrong7_runs.rt:8:1: it is not proved (`returns-clause-of_none`)"
-        self.assertEqual(self.note(line).refusers(), ["`runs::what_is_so` of_none"])
+        self.assertEqual(self.note(line).refusers(), ["`runs::what_is_so`, `of_none`"])
 
     def test_a_version_that_cannot_be_read(self) -> None:
         trial = self.note("specs/internal/Wrong7_0.antt:3:1: error: no such name")

@@ -53,6 +53,18 @@ WORLD = """
     messages None rest = rest
     messages (Some them) rest = if both rest rest then them else rest
 
+    -- all nodes are known, with some number
+    abbrev pub AllKnown : World → Type 0
+    AllKnown w = (p : ℕ) → IsKnown w p → (k : Option ℕ) × (p ≡ p) × IsKnown w p
+
+    -- a node's log and its number
+    abbrev pub Shown : Type 0
+    Shown = List ℕ × ℕ
+
+    -- a log and a number, by a node
+    abbrev pub shown : ℕ → List ℕ × ℕ
+    shown p = ([], p)
+
     -- a case
     pub data Kind : Type 0 where
       One : Kind
@@ -93,6 +105,20 @@ class Making(WeakeningTest):
             [it.rpartition("= ")[2] for it in self.texts("both", "unit")],
             ["true && b", "a && true"],
         )
+
+    def test_a_part_of_what_premises_lead_to(self) -> None:
+        head = "(p : ℕ) → IsKnown w p → (k : Option ℕ)"
+        expected = [f"{head} × Unit {{0}} × IsKnown w p", f"{head} × (p ≡ p) × Unit {{0}}"]
+        found = [it.rpartition("w = ")[2] for it in self.texts("AllKnown", "unit")]
+        self.assertEqual(found, expected)
+
+    def test_a_type_of_values_and_a_pair_are_no_claims_and_no_lists(self) -> None:
+        self.assertEqual(self.versions("Shown"), [])
+        self.assertEqual(self.versions("shown"), [])
+
+    def test_the_words_name_the_case_if_there_are_several(self) -> None:
+        self.assertIn("false of four nodes in case 1", [it.what for it in self.versions("IsOpen")])
+        self.assertEqual([it.what for it in self.versions("both")], ["without `a`", "without `b`"])
 
     def test_a_premise_is_left_out(self) -> None:
         found = self.texts("Safe", "premise")

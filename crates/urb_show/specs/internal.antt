@@ -6,3 +6,4 @@ pub mod Operations
 pub mod PublishingRule
 pub mod Examples
 pub mod ServiceExamples
+pub mod ReaderExamples

@@ -9,6 +9,8 @@ ghost use Rattle.urb_show.specs.DeliveredLists.{HaveDelivered};
 ghost use Rattle.urb_show.specs.Houses.{next_count};
 ghost use Rattle.urb_show.specs.Lists.{Agree, Begins, list_at, lists_in};
 
+pub mod pages;
+pub mod readers;
 pub mod service;
 
 /// A node's list has the names of its log, in the log's order, each with its message. If there is

@@ -1,0 +1,34 @@
+-- Words for the worked examples of readers: groups of four nodes, and what readers and houses know.
+use Rattle.std.specs.Prelude.{List, [], ◌∷◌}
+use Rattle.urb_group.specs.GroupViews.{GroupView}
+use Rattle.urb_group.specs.Step.{Event}
+use Rattle.urb_group.specs.internal.Examples.{limits}
+use Rattle.urb_names.specs.Names.{name}
+use Rattle.urb_node.specs.NodeViews.{no_view}
+use Rattle.urb_show.specs.Houses.{HouseView}
+use Rattle.urb_show.specs.Lists.{Lists}
+use Rattle.urb_show.specs.Readers.{ReaderView, ToldView}
+
+-- a new group of four nodes
+abbrev pub new_four : GroupView
+new_four = record { size = limits 4 10; nodes = [] }
+
+-- A group of four that shows no world: node 1 has a log, although it has stored nothing.
+abbrev pub shows_none : GroupView
+shows_none = record {
+  size = limits 4 10;
+  nodes = record no_view { log = name 1 1 ∷ [] } ∷ [];
+}
+
+-- a reader that saw the first lists, learnt the second ones, and knows these events
+abbrev pub knowing : Lists → Lists → List Event → ReaderView
+knowing seen told past = record { seen = seen; told = told; past = past }
+
+-- a token for these lists and events
+abbrev pub token_of : Lists → List Event → ToldView
+token_of lists past = record { lists = lists; past = past }
+
+-- a house that has published nothing, after these events
+abbrev pub house_after : List Event → HouseView
+house_after past =
+    record { group = shows_none; published = []; prepared = []; events = 0; past = past }
