@@ -88,6 +88,6 @@ returns-clause-it_forgets_an_event c takes = some-none (Tick 1) _ takes.past.1
 
 pub returns-clause-what_no_node_delivered : goal.returns-clause-what_no_node_delivered
 unfolding run
-returns-clause-what_no_node_delivered c takes = 
+returns-clause-what_no_node_delivered c takes =
     let begins = takes.delivered (started (limits 4 10)) shows_new 0 in
     some-none _ _ begins.1

@@ -28,7 +28,7 @@ pub returns-clause-an_earlier_moment : goal.returns-clause-an_earlier_moment
 returns-clause-an_earlier_moment c learns = some-none (Tick 1) _ learns.past.earlier.1
 
 pub returns-clause-a_moment_of_nobody : goal.returns-clause-a_moment_of_nobody
-returns-clause-a_moment_of_nobody c learns = 
+returns-clause-a_moment_of_nobody c learns =
     ⊎_elim (some-none (Tick 1) []) (some-none (Tick 1) []) learns.one
 
 pub returns-clause-less_than_its_moment : goal.returns-clause-less_than_its_moment

@@ -21,6 +21,6 @@ pub returns-clause-second_lists_that_disagree : goal.returns-clause-second_lists
 returns-clause-second_lists_that_disagree c history = let e = history.those_agree.numbers 0 1 in cc
 
 pub returns-clause-each_is_ahead_at_a_node : goal.returns-clause-each_is_ahead_at_a_node
-returns-clause-each_is_ahead_at_a_node c history = 
+returns-clause-each_is_ahead_at_a_node c history =
     ⊎_elim (lost _ _)
     lost_second history.one_begins
