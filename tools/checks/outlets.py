@@ -1,7 +1,11 @@
-"""Who sends and reports. A worker sends packets and reports changes only through its outlets.
+"""Who sends and reports, and who can give a worker tickets.
 
 Clauses list what goes through a worker's outlets (`WorkerOutlets`), and nothing else. So a link's
-`send` and a reporter's `report` are called in as few places as can be, and this table holds that.
+`send` and a reporter's `report` are called in as few places as can be, and a table holds that.
+
+Clauses say what goes into a worker's queue: through a desk's way in what a request asks, through a
+receiver's way in arrivals, and through the timer's ticks. Whoever has the sender itself could put
+anything there. So few places name its type, and another table holds that.
 """
 from __future__ import annotations
 
@@ -12,6 +16,8 @@ from collections.abc import Iterator, Mapping
 from tools.checks.calls import misplaced_calls, without_comments
 from tools.tree import Misfit, Tree
 
+# A sender of tickets, as a type.
+SENDER = re.compile(r"\bSender\s*<\s*(?:\w+\s*::\s*)*Ticket\b")
 CALL = re.compile(r"\b(link\s*\.send|reporter\s*\.report)\(")
 # The places by call and file: how many there are.
 PLACES: Mapping[tuple[str, str], int] = {
@@ -21,6 +27,32 @@ PLACES: Mapping[tuple[str, str], int] = {
     ("link.send", "crates/urb_worker/src/outlets.rt"): 1,
     ("reporter.report", "crates/urb_worker/src/outlets.rt"): 1,
 }
+# The places that name a sender of tickets, by name and file: how often they do.
+HANDS: Mapping[tuple[str, str], int] = {
+    # the ways in: of arrivals, of what requests ask, and of ticks
+    ("Sender<Ticket>", "crates/urb_worker/src/arrival_queue.rt"): 2,
+    ("Sender<Ticket>", "crates/urb_worker/src/desk_queue.rt"): 2,
+    ("Sender<Ticket>", "crates/urb_worker/src/tick_queue.rt"): 3,
+    # the two offers of a ticket, which the ways in of arrivals and ticks make
+    ("Sender<Ticket>", "crates/urb_worker/src/offers.rt"): 2,
+    # what makes the ways in, with those that keep the senders for it and drop them
+    ("Sender<Ticket>", "crates/urb_worker/src/node_service.rt"): 1,
+    ("Sender<Ticket>", "crates/urb_worker/src/listeners.rt"): 3,
+    ("Sender<Ticket>", "crates/urb_worker/src/worker_group.rt"): 2,
+    ("Sender<Ticket>", "crates/urb_worker/src/worker_threads.rt"): 2,
+}
+
+
+def senders_in(text: str) -> Counter[str]:
+    """How often a source names the type of a sender of tickets."""
+    return Counter("Sender<Ticket>" for _ in SENDER.findall(without_comments(text)))
+
+
+def senders_of_tickets(
+    tree: Tree, hands: Mapping[tuple[str, str], int] = HANDS
+) -> Iterator[Misfit]:
+    """Each source that names the type of a sender of tickets is in the table."""
+    yield from misplaced_calls(tree, senders_in, hands, "senders of tickets", "name")
 
 
 def calls_in(text: str) -> Counter[str]:

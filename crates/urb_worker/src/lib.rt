@@ -18,8 +18,9 @@
 //! let setting = WorkerSetting::new(rt, alloc, &hub, &link, &OpenGate, &Silent);
 //! let mut outlets = setting.outlets_for_worker();
 //! let (tally, _) = serve_from(&setting, node, &mut store, &mut outlets, &jobs, tally); // to the end
-//! receive(rt, alloc, &stop, node, &station, &queue);              // a node's datagrams
-//! timer(rt, &stop, 100, &queues);                                 // a tick at each node each 100 ms
+//! let arrivals = ArrivalQueue::new(node, &queue);
+//! receive(rt, alloc, &stop, &station, arrivals);                  // a node's datagrams
+//! timer(rt, &stop, 100, TickQueues::of(&queues)?);                // a tick at each node each 100 ms
 //! let desk = NodeDesk::new(rt, alloc, node, service, position);    // for a client's session
 //! // at the end: set the stop, wake the receivers, drop the queues, join all
 //! let (house, is_known) = hub.close(tallies);
@@ -42,6 +43,7 @@
 
 mod acceptor;
 mod acts;
+mod arrival_queue;
 mod backlog;
 mod bell;
 mod change;
@@ -63,6 +65,7 @@ mod links;
 mod listeners;
 mod loans;
 mod node_service;
+mod offers;
 mod outlets;
 mod own_jobs;
 mod polling;
@@ -74,6 +77,7 @@ mod settling;
 mod spares;
 mod stations;
 mod stop;
+mod tick_queue;
 mod tick_timer;
 mod ticket_places;
 mod tickets;
@@ -84,6 +88,7 @@ mod worker_loop;
 mod worker_setting;
 mod worker_threads;
 
+pub use arrival_queue::ArrivalQueue;
 pub use backlog::{BACKLOG, Backlog, KEEPING};
 pub use bell::{Bell, pass_rings};
 pub use change::{Change, Reporter, Silent, change_of};
@@ -107,6 +112,7 @@ pub use settling::{Settling, Unsettled};
 pub use spares::{SPARES, Spares};
 pub use stations::Station;
 pub use stop::{Stop, StopSeen};
+pub use tick_queue::TickQueues;
 pub use tick_timer::timer;
 pub use ticket_places::{SESSION_TICKETS, TicketPlaces};
 pub use tickets::Closed;
