@@ -1,7 +1,8 @@
 """Who sends and reports, and who can give a worker tickets.
 
 Clauses list what goes through a worker's outlets (`WorkerOutlets`), and nothing else. So a link's
-`send` and a reporter's `report` are called in as few places as can be, and a table holds that.
+`send` and a reporter's `report` are called in as few places as can be, and a table holds that. The
+same table holds that one function alone calls a socket's `send_to`, and makes the witness of it.
 
 Clauses say what goes into a worker's queue: through a desk's way in what a request asks, through a
 receiver's way in arrivals, and through the timer's ticks. Whoever has the sender itself could put
@@ -18,7 +19,7 @@ from tools.tree import Misfit, Tree
 
 # A sender of tickets, as a type.
 SENDER = re.compile(r"\bSender\s*<\s*(?:\w+\s*::\s*)*Ticket\b")
-CALL = re.compile(r"\b(link\s*\.send|reporter\s*\.report)\(")
+CALL = re.compile(r"\b(link\s*\.send|reporter\s*\.report|send_to)\(")
 # The places by call and file: how many there are.
 PLACES: Mapping[tuple[str, str], int] = {
     # a link that waits for receivers sends over another link
@@ -26,6 +27,8 @@ PLACES: Mapping[tuple[str, str], int] = {
     # a worker's outlets, which list what goes through them
     ("link.send", "crates/urb_worker/src/outlets.rt"): 1,
     ("reporter.report", "crates/urb_worker/src/outlets.rt"): 1,
+    # the one function that gives a socket a datagram
+    ("send_to", "crates/urb_worker/src/handed.rt"): 1,
 }
 # The places that name a sender of tickets, by name and file: how often they do.
 HANDS: Mapping[tuple[str, str], int] = {
@@ -56,7 +59,7 @@ def senders_of_tickets(
 
 
 def calls_in(text: str) -> Counter[str]:
-    """How often a source sends over a link, and how often it reports a change."""
+    """How often a source sends over a link or from a socket, and how often it reports a change."""
     found = CALL.findall(without_comments(text))
     return Counter(re.sub(r"\s", "", call) for call in found)
 
@@ -64,5 +67,5 @@ def calls_in(text: str) -> Counter[str]:
 def sends_and_reports(
     tree: Tree, places: Mapping[tuple[str, str], int] = PLACES
 ) -> Iterator[Misfit]:
-    """Each call that sends over a link or reports a change is in the table."""
+    """Each call that sends over a link or from a socket, or reports a change, is in the table."""
     yield from misplaced_calls(tree, calls_in, places, "outlets")

@@ -15,8 +15,8 @@ SENDS = "//! A.\nfn f() { setting.link.send(target, bytes) }\n"
 class Calls(unittest.TestCase):
     def test_calls_count_also_over_two_lines(self) -> None:
         self.assertEqual(
-            outlets.calls_in("self.link\n    .send(a, b); self.reporter.report(c);"),
-            {"link.send": 1, "reporter.report": 1},
+            outlets.calls_in("self.link\n    .send(a, b); self.reporter.report(c); s.send_to(d)"),
+            {"link.send": 1, "reporter.report": 1, "send_to": 1},
         )
 
     def test_other_calls_and_comments_do_not(self) -> None:

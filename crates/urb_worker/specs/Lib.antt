@@ -11,6 +11,7 @@ pub mod ClientLimits
 pub mod NodeStores
 pub mod LastLoans
 pub mod WholeTurns
+pub mod Links
 pub mod Acts
 pub mod ServedStores
 pub mod Desks

@@ -57,6 +57,7 @@ mod desk_queue;
 mod door;
 mod feeding;
 mod frame_progress;
+mod handed;
 mod hub;
 mod in_flight;
 mod job;
@@ -98,6 +99,7 @@ pub use connections::{
 };
 pub use counting::tally::{HubName, Tally};
 pub use desk::NodeDesk;
+pub use handed::Handed;
 pub use hub::{Gate, Hub, OpenGate};
 pub use in_flight::{CARRYING, FULL_BACKLOG, InFlight, LONG_BACKLOG, MOST_IN_FLIGHT};
 pub use job::Job;
