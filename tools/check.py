@@ -84,6 +84,7 @@ CHECKS: tuple[Callable[[Tree], Iterable[Misfit]], ...] = (
     memory.refusals_from_nothing,
     files.changes_of_files,
     outlets.sends_and_reports,
+    outlets.senders_of_tickets,
     monitoring.alerts,
     monitoring.figures,
     monitoring.picture,

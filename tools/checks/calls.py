@@ -20,10 +20,12 @@ def misplaced_calls(
     calls_in: Callable[[str], Counter[str]],
     places: Mapping[tuple[str, str], int],
     table: str,
+    verb: str = "call",
 ) -> Iterator[Misfit]:
     """Each call that `calls_in` finds is in the table, by call and file, as often as that says.
 
-    Tests may make all calls. `table` is the table's name.
+    Tests may make all calls. `table` is the table's name, and `verb` what a source does with what
+    `calls_in` finds.
     """
     left = dict(places)
     for path in tree.sources():
@@ -33,6 +35,6 @@ def misplaced_calls(
         for call, count in sorted(calls_in(path.read_text()).items()):
             told = left.pop((call, name), 0)
             if count != told:
-                yield Misfit(name, f"calls {call} {count} times, and not {told}")
+                yield Misfit(name, f"{verb}s {call} {count} times, and not {told}")
     for call, name in left:
-        yield Misfit(name, f"is in the table of {table}, but doesn't call {call}")
+        yield Misfit(name, f"is in the table of {table}, but doesn't {verb} {call}")

@@ -1,7 +1,12 @@
-"""Who sends and reports. A worker sends packets and reports changes only through its outlets.
+"""Who sends and reports, and who can give a worker tickets.
 
 Clauses list what goes through a worker's outlets (`WorkerOutlets`), and nothing else. So a link's
-`send` and a reporter's `report` are called in as few places as can be, and this table holds that.
+`send` and a reporter's `report` are called in as few places as can be, and a table holds that. The
+same table holds that one function alone calls a socket's `send_to`, and makes the witness of it.
+
+Clauses say what goes into a worker's queue: through a desk's way in what a request asks, through a
+receiver's way in arrivals, and through the timer's ticks. Whoever has the sender itself could put
+anything there. So few places name its type, and another table holds that.
 """
 from __future__ import annotations
 
@@ -12,7 +17,9 @@ from collections.abc import Iterator, Mapping
 from tools.checks.calls import misplaced_calls, without_comments
 from tools.tree import Misfit, Tree
 
-CALL = re.compile(r"\b(link\s*\.send|reporter\s*\.report)\(")
+# A sender of tickets, as a type.
+SENDER = re.compile(r"\bSender\s*<\s*(?:\w+\s*::\s*)*Ticket\b")
+CALL = re.compile(r"\b(link\s*\.send|reporter\s*\.report|send_to)\(")
 # The places by call and file: how many there are.
 PLACES: Mapping[tuple[str, str], int] = {
     # a link that waits for receivers sends over another link
@@ -20,11 +27,39 @@ PLACES: Mapping[tuple[str, str], int] = {
     # a worker's outlets, which list what goes through them
     ("link.send", "crates/urb_worker/src/outlets.rt"): 1,
     ("reporter.report", "crates/urb_worker/src/outlets.rt"): 1,
+    # the one function that gives a socket a datagram
+    ("send_to", "crates/urb_worker/src/handed.rt"): 1,
+}
+# The places that name a sender of tickets, by name and file: how often they do.
+HANDS: Mapping[tuple[str, str], int] = {
+    # the ways in: of arrivals, of what requests ask, and of ticks
+    ("Sender<Ticket>", "crates/urb_worker/src/arrival_queue.rt"): 2,
+    ("Sender<Ticket>", "crates/urb_worker/src/desk_queue.rt"): 2,
+    ("Sender<Ticket>", "crates/urb_worker/src/tick_queue.rt"): 3,
+    # the two offers of a ticket, which the ways in of arrivals and ticks make
+    ("Sender<Ticket>", "crates/urb_worker/src/offers.rt"): 2,
+    # what makes the ways in, with those that keep the senders for it and drop them
+    ("Sender<Ticket>", "crates/urb_worker/src/node_service.rt"): 1,
+    ("Sender<Ticket>", "crates/urb_worker/src/listeners.rt"): 3,
+    ("Sender<Ticket>", "crates/urb_worker/src/worker_group.rt"): 2,
+    ("Sender<Ticket>", "crates/urb_worker/src/worker_threads.rt"): 2,
 }
 
 
+def senders_in(text: str) -> Counter[str]:
+    """How often a source names the type of a sender of tickets."""
+    return Counter("Sender<Ticket>" for _ in SENDER.findall(without_comments(text)))
+
+
+def senders_of_tickets(
+    tree: Tree, hands: Mapping[tuple[str, str], int] = HANDS
+) -> Iterator[Misfit]:
+    """Each source that names the type of a sender of tickets is in the table."""
+    yield from misplaced_calls(tree, senders_in, hands, "senders of tickets", "name")
+
+
 def calls_in(text: str) -> Counter[str]:
-    """How often a source sends over a link, and how often it reports a change."""
+    """How often a source sends over a link or from a socket, and how often it reports a change."""
     found = CALL.findall(without_comments(text))
     return Counter(re.sub(r"\s", "", call) for call in found)
 
@@ -32,5 +67,5 @@ def calls_in(text: str) -> Counter[str]:
 def sends_and_reports(
     tree: Tree, places: Mapping[tuple[str, str], int] = PLACES
 ) -> Iterator[Misfit]:
-    """Each call that sends over a link or reports a change is in the table."""
+    """Each call that sends over a link or from a socket, or reports a change, is in the table."""
     yield from misplaced_calls(tree, calls_in, places, "outlets")

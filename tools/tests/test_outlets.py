@@ -1,4 +1,4 @@
-"""What is held of the calls that send over a link and report changes."""
+"""What is held of the calls that send over a link and report changes, and of senders of tickets."""
 from __future__ import annotations
 
 import unittest
@@ -8,14 +8,15 @@ from tools.tests.trees import TreeTest
 
 SOURCE = "crates/a/src/lib.rt"
 TEST = "crates/a_tests/src/lib.rt"
+NAMES = "//! A.\nfn f(queue: &Sender<Ticket<K>>) {}\n"
 SENDS = "//! A.\nfn f() { setting.link.send(target, bytes) }\n"
 
 
 class Calls(unittest.TestCase):
     def test_calls_count_also_over_two_lines(self) -> None:
         self.assertEqual(
-            outlets.calls_in("self.link\n    .send(a, b); self.reporter.report(c);"),
-            {"link.send": 1, "reporter.report": 1},
+            outlets.calls_in("self.link\n    .send(a, b); self.reporter.report(c); s.send_to(d)"),
+            {"link.send": 1, "reporter.report": 1, "send_to": 1},
         )
 
     def test_other_calls_and_comments_do_not(self) -> None:
@@ -41,6 +42,30 @@ class Places(TreeTest):
         self.holds(
             outlets.sends_and_reports(tree, {("link.send", SOURCE): 1}),
             f"{SOURCE}: is in the table of outlets, but doesn't call link.send",
+        )
+
+
+class Senders(TreeTest):
+    def test_all_spellings_of_the_type_count(self) -> None:
+        text = "Vec<Sender<Ticket<K>>>; &Sender<crate::Ticket<K>>; Sender<\n    Ticket<K>,\n>"
+        self.assertEqual(outlets.senders_in(text), {"Sender<Ticket>": 3})
+
+    def test_other_types_and_comments_do_not(self) -> None:
+        text = "Sender<Finished<K>>; Receiver<Ticket<K>>; TicketPlaces; // Sender<Ticket<K>>"
+        self.assertEqual(outlets.senders_in(text), {})
+
+    def test_a_sender_outside_the_table_is_told(self) -> None:
+        self.holds(
+            outlets.senders_of_tickets(self.tree({SOURCE: NAMES, TEST: NAMES}), {}),
+            f"{SOURCE}: names Sender<Ticket> 1 times, and not 0",
+        )
+
+    def test_a_sender_of_the_table_passes_and_a_row_without_one_is_told(self) -> None:
+        table = {("Sender<Ticket>", SOURCE): 1}
+        self.holds(outlets.senders_of_tickets(self.tree({SOURCE: NAMES}), table))
+        self.holds(
+            outlets.senders_of_tickets(self.tree({SOURCE: "//! A.\n"}), table),
+            f"{SOURCE}: is in the table of senders of tickets, but doesn't name Sender<Ticket>",
         )
 
 

@@ -12,6 +12,7 @@ pub mod NodeStores
 pub mod KilledStores
 pub mod LastLoans
 pub mod WholeTurns
+pub mod Links
 pub mod Acts
 pub mod ServedStores
 pub mod Desks

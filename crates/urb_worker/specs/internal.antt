@@ -6,6 +6,7 @@ pub mod CountedHouses
 pub mod WorkerOutputs
 pub mod Desks
 pub mod Arrivals
+pub mod Ticks
 pub mod IdleTimes
 pub mod Pulses
 pub mod OwnJobs

@@ -2,7 +2,7 @@
 
 ghost use Rattle.std.specs.Prelude.{◌≡◌, [], ◌∷◌, ◌++◌};
 
-use crate::Change;
+use crate::{Change, Handed};
 use logbook::{Opening, Rule, Seen, Start};
 use std::marker::Model;
 use urb_names::NodeId;
@@ -47,17 +47,16 @@ pub(crate) trait NextAct {
     ghost act: { Self → Act };
 }
 
-/// Bytes for a node.
+/// Bytes for a node, with what a link did with them.
 #[derive(Drop)]
 pub(crate) struct Sending<'a> {
-    pub(crate) target: NodeId,
-    pub(crate) bytes: &'a [u8],
+    pub(crate) handed: Handed<'a>,
 }
 
 impl<'a> NextAct for Sending<'a> {
     ghost use Rattle.urb_worker.specs.Acts.{Sent};
 
-    ghost act = { λ a. Sent a.target a.bytes.now };
+    ghost act = { λ a. Sent a.handed.target a.handed.bytes.now };
 }
 
 /// A packet for a node, which is lost.

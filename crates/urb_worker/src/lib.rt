@@ -18,8 +18,9 @@
 //! let setting = WorkerSetting::new(rt, alloc, &hub, &link, &OpenGate, &Silent);
 //! let mut outlets = setting.outlets_for_worker();
 //! let (tally, _) = serve_from(&setting, node, &mut store, &mut outlets, &jobs, tally); // to the end
-//! receive(rt, alloc, &stop, node, &station, &queue);              // a node's datagrams
-//! timer(rt, &stop, 100, &queues);                                 // a tick at each node each 100 ms
+//! let arrivals = ArrivalQueue::new(node, &queue);
+//! receive(rt, alloc, &stop, &station, arrivals);                  // a node's datagrams
+//! timer(rt, &stop, 100, TickQueues::of(&queues)?);                // a tick at each node each 100 ms
 //! let desk = NodeDesk::new(rt, alloc, node, service, position);    // for a client's session
 //! // at the end: set the stop, wake the receivers, drop the queues, join all
 //! let (house, is_known) = hub.close(tallies);
@@ -42,6 +43,7 @@
 
 mod acceptor;
 mod acts;
+mod arrival_queue;
 mod backlog;
 mod bell;
 mod change;
@@ -55,6 +57,7 @@ mod desk_queue;
 mod door;
 mod feeding;
 mod frame_progress;
+mod handed;
 mod hub;
 mod in_flight;
 mod job;
@@ -63,6 +66,7 @@ mod links;
 mod listeners;
 mod loans;
 mod node_service;
+mod offers;
 mod outlets;
 mod own_jobs;
 mod polling;
@@ -74,6 +78,7 @@ mod settling;
 mod spares;
 mod stations;
 mod stop;
+mod tick_queue;
 mod tick_timer;
 mod ticket_places;
 mod tickets;
@@ -84,6 +89,7 @@ mod worker_loop;
 mod worker_setting;
 mod worker_threads;
 
+pub use arrival_queue::ArrivalQueue;
 pub use backlog::{BACKLOG, Backlog, KEEPING};
 pub use bell::{Bell, pass_rings};
 pub use change::{Change, Reporter, Silent, change_of};
@@ -93,6 +99,7 @@ pub use connections::{
 };
 pub use counting::tally::{HubName, Tally};
 pub use desk::NodeDesk;
+pub use handed::Handed;
 pub use hub::{Gate, Hub, OpenGate};
 pub use in_flight::{CARRYING, FULL_BACKLOG, InFlight, LONG_BACKLOG, MOST_IN_FLIGHT};
 pub use job::Job;
@@ -107,6 +114,7 @@ pub use settling::{Settling, Unsettled};
 pub use spares::{SPARES, Spares};
 pub use stations::Station;
 pub use stop::{Stop, StopSeen};
+pub use tick_queue::TickQueues;
 pub use tick_timer::timer;
 pub use ticket_places::{SESSION_TICKETS, TicketPlaces};
 pub use tickets::Closed;

@@ -1,19 +1,30 @@
 //! Links, which carry packets to nodes.
 
-ghost use Rattle.std.specs.Prelude.{◌≡◌};
+ghost use Rattle.std.specs.Prelude.{◌≡◌, ◌-◌, slice_get, vec_len};
 
-use crate::Station;
+use crate::handed::{keep, send_datagram};
+use crate::{Handed, Station};
 use std::alloc::Global;
-use std::net::{Ipv4Addr, UdpSocket};
+use std::net::UdpSocket;
 use std::sync::{Mutex, Wait};
 use std::time::Clock;
 use urb_names::{MAX_NODES, MAX_SENDERS, NoMemory, NodeId};
 
 /// Carries packets to nodes, as the textbook's fair-loss links do (section 2.4 of the textbook). A
-/// link returns nothing. A packet that can't be sent is lost, also if the cause is refused memory.
-/// A later tick may resend it.
+/// packet that can't be sent is lost, also if the cause is refused memory. A later tick may resend
+/// it.
 pub trait Link {
-    fn send(&self, target: NodeId, bytes: &[u8]);
+    ghost use Rattle.std.specs.Prelude.{List, ℕ};
+    ghost use Rattle.urb_worker.specs.Links.{IsOf};
+    ghost use Rattle.urb_worker.specs.declared.handed.Handed.{Handed};
+
+    /// What the link may have done with these bytes for this node.
+    ghost hands: { Self → ℕ → List ℕ → Handed → Type 0 };
+
+    /// Sends bytes to a node. The result is the witness of what was done with them.
+    fn send<'b>(&self, target: NodeId, bytes: &'b [u8]) -> Handed<'b>
+        ensures of { IsOf target bytes.now result }
+        ensures hands { hands self.now target bytes.now result };
 
     /// Takes back the buffer of a datagram that its node has handled, so that a later datagram can
     /// use it. A link that keeps no buffers drops it.
@@ -39,12 +50,24 @@ impl UdpLink {
     {
         UdpLink { socket, ports }
     }
+
+    // The port at which a node receives, if the link has one for it.
+    fn port_of(&self, target: NodeId) -> Option<u16>
+        ensures { result ≡ slice_get self.now.ports.items (target - 1) }
+    {
+        self.ports.get(usize::from(target.number()) - 1).copied()
+    }
 }
 
 impl Link for UdpLink {
-    fn send(&self, target: NodeId, bytes: &[u8]) {
-        if let Some(port) = self.ports.get(usize::from(target.number()) - 1) {
-            let _ = self.socket.send_to(bytes, (Ipv4Addr::LOCALHOST, *port));
+    ghost use Rattle.urb_worker.specs.Links.{IsByPorts};
+
+    ghost hands = { λ link target bytes handed. IsByPorts link.ports.items target handed.way };
+
+    fn send<'b>(&self, target: NodeId, bytes: &'b [u8]) -> Handed<'b> {
+        match self.port_of(target) {
+            Some(port) => Handed::sent(target, send_datagram(&self.socket, port, bytes)),
+            None => Handed::to_nobody(target, bytes),
         }
     }
 }
@@ -69,11 +92,13 @@ impl<'a, N: Link, R: Clock> PacedLink<'a, N, R> {
 }
 
 impl<'a, N: Link, R: Clock> Link for PacedLink<'a, N, R> {
-    fn send(&self, target: NodeId, bytes: &[u8]) {
+    ghost hands = { λ paced target bytes handed. N.hands paced.link.now target bytes handed };
+
+    fn send<'b>(&self, target: NodeId, bytes: &'b [u8]) -> Handed<'b> {
         if let Some(station) = self.stations.get(usize::from(target.number()) - 1) {
             station.in_flight.enter(self.rt, bytes.len());
         }
-        self.link.send(target, bytes);
+        self.link.send(target, bytes)
     }
 
     fn take_back(&self, node: NodeId, buffer: Vec<u8>) {
@@ -122,12 +147,18 @@ impl<'a, R: Wait> MemoryLink<'a, R> {
 }
 
 impl<'a, R: Wait> Link for MemoryLink<'a, R> {
-    fn send(&self, target: NodeId, bytes: &[u8]) {
+    ghost use Rattle.urb_worker.specs.Links.{IsByMailboxes};
+
+    ghost hands = { λ link target bytes handed.
+        IsByMailboxes (vec_len link.mailboxes) target handed.way };
+
+    fn send<'b>(&self, target: NodeId, bytes: &'b [u8]) -> Handed<'b> {
         let Some(mailbox) = self.mailboxes.get(usize::from(target.number()) - 1) else {
-            return;
+            return Handed::to_nobody(target, bytes);
         };
-        if let Ok(copy) = Vec::from_slice(self.alloc, bytes) {
-            let _ = mailbox.lock(self.rt).push(copy);
+        match keep(self.rt, self.alloc, mailbox, bytes) {
+            Ok(packet) => Handed::kept(target, packet),
+            Err(refused) => Handed::refused(target, bytes, refused),
         }
     }
 }

@@ -7,8 +7,8 @@ use crate::acceptor::{Acceptor, Refusals, accept_clients};
 use crate::connections::Connections;
 use crate::door::Door;
 use crate::{
-    ClientLimits, GroupSetting, NodeDesk, NodeService, ReaderPool, Reporter, Station, Stop,
-    StopSeen, Ticket, TicketPlaces, pass_rings, receive, timer,
+    ArrivalQueue, ClientLimits, GroupSetting, NodeDesk, NodeService, ReaderPool, Reporter, Station,
+    Stop, TickQueues, Ticket, TicketPlaces, pass_rings, receive, timer,
 };
 use crossbeam_channel::Sender;
 use std::alloc::Global;
@@ -23,21 +23,6 @@ use urb_show::{HouseName, LogReader, ReadPosition};
 /// The group calls `watch` when it runs, and stops when `watch` returns.
 pub trait Watch {
     fn watch(&mut self, stations: &[Station]);
-}
-
-// Hands the datagrams of the node with this number to its worker, until the stop is set. It takes
-// the number because a closure that owns nothing can't hold the node itself, whose type has an
-// invariant.
-fn receive_datagrams<'s, K: HouseName, R: Wait + Clock>(
-    rt: &R,
-    alloc: Global,
-    stop: &'s Stop,
-    number: u8,
-    station: &Station,
-    queue: &Sender<Ticket<K>>,
-) -> Option<StopSeen<'s>> {
-    let node = NodeId::new(number)?;
-    Some(receive(rt, alloc, stop, node, station, queue))
 }
 
 /// What the sessions of a group need: the readers that they share, the position that each begins
@@ -87,7 +72,7 @@ struct NodeListener<'a, K: HouseName, R: Wait + Clock> {
     alloc: Global,
     stop: &'a Stop,
     station: &'a Station,
-    queue: &'a Sender<Ticket<K>>,
+    queue: ArrivalQueue<'a, K>,
     connections: &'a Connections,
     refusals: &'a Refusals,
     desk: NodeDesk<'a, K, R>,
@@ -131,7 +116,6 @@ fn start_acceptor<'s, E, K: HouseName + Send + Sync, R: Wait + Clock + Sync>(
 fn start_node_threads<'s, E, K: HouseName + Send + Sync, R: Wait + Clock + Sync>(
     scope: &'s Scope<'s, E>,
     listener: NodeListener<'s, K, R>,
-    number: u8,
 ) -> bool {
     let NodeListener {
         rt,
@@ -143,7 +127,7 @@ fn start_node_threads<'s, E, K: HouseName + Send + Sync, R: Wait + Clock + Sync>
         refusals,
         desk,
     } = listener;
-    let receiver = move || receive_datagrams(rt, alloc, stop, number, station, queue);
+    let receiver = move || receive(rt, alloc, stop, station, queue);
     if scope.spawn(receiver).is_err() {
         return false;
     }
@@ -191,15 +175,16 @@ fn start_threads<'s, E, K: HouseName + Send + Sync, H: Reporter, R: Wait + Clock
             alloc: setting.alloc,
             stop,
             station: &stations[place],
-            queue: &queues[place],
+            queue: ArrivalQueue::new(node, &queues[place]),
             connections: &room.nodes[place].0,
             refusals: &room.refusals,
             desk: NodeDesk::new(rt, setting.alloc, node, service, room.start.copy()),
         };
-        if !start_node_threads(scope, listener, node.number()) {
+        if !start_node_threads(scope, listener) {
             return false;
         }
     }
+    let queues = TickQueues::of(queues).unwrap();
     scope
         .spawn(move || timer(rt, stop, tick_millis, queues))
         .is_ok()

@@ -46,8 +46,8 @@ impl<'a, N: Link, H: Reporter> WorkerOutlets<'a, N, H> {
     pub(crate) fn send(&mut self, target: NodeId, bytes: &[u8])
         ensures { self.new ≡ self.old ++ Sent target bytes.now ∷ [] }
     {
-        self.link.send(target, bytes);
-        self.acts = self.acts.with(&Sending { target, bytes });
+        let handed = self.link.send(target, bytes);
+        self.acts = self.acts.with(&Sending { handed });
     }
 
     /// Loses a packet for a node, because this memory was refused.

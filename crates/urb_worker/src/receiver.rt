@@ -4,17 +4,16 @@
 //! the channel is full, the receiver keeps taking datagrams from its socket, and puts them into a
 //! backlog.
 
-ghost use Rattle.std.specs.Prelude.{◌≡◌, ◌⊎◌, ◌++◌, [], ◌∷◌, IfSome, drop};
-ghost use Rattle.urb_worker.specs.internal.Arrivals.{IsArrival, IsOfFirst};
+ghost use Rattle.std.specs.Prelude.{◌≡◌, ◌⊎◌, ◌++◌, [], ◌∷◌, IfSome};
 
+use crate::arrival_queue::Arrival;
 use crate::stations::rest;
-use crate::{Backlog, Job, Spares, Station, Stop, StopSeen, Ticket};
-use crossbeam_channel::{SendTimeoutError, Sender, TrySendError};
+use crate::{ArrivalQueue, Backlog, Station, Stop, StopSeen};
 use std::alloc::Global;
 use std::io::ErrorKind;
 use std::sync::Wait;
-use std::time::{Clock, Duration};
-use urb_names::{MAX_PACKET, MAX_PAYLOAD, NodeId};
+use std::time::Clock;
+use urb_names::{MAX_PACKET, MAX_PAYLOAD};
 use urb_show::HouseName;
 
 /// The size of the buffer for a datagram. It is more than the longest packet, so a datagram that is
@@ -23,68 +22,8 @@ pub(crate) const ROOM: usize = MAX_PAYLOAD + 256;
 
 const _: () = prove!(MAX_PACKET < ROOM);
 
-// How long a receiver waits for room in its worker's channel before it checks its socket again, in
-// milliseconds.
-const MOMENT: u64 = 1;
-
 // The most datagrams that a receiver takes before it checks the stop and the channel again.
 const ROUND: u32 = 256;
-
-// The ticket for the arrival of a datagram at a node.
-fn arrival_ticket<K: HouseName>(node: NodeId, datagram: Vec<u8>) -> Ticket<K>
-    ensures { IsArrival node datagram.items result.job }
-{
-    Ticket {
-        job: Job::Arrive {
-            node,
-            bytes: datagram,
-        },
-        answer: None,
-    }
-}
-
-// Sends a worker a ticket. The ticket is returned if the channel is full.
-fn offer<K: HouseName, R: Wait>(
-    rt: &R,
-    queue: &Sender<Ticket<K>>,
-    ticket: Ticket<K>,
-) -> Option<Ticket<K>>
-    ensures { IfSome result (λ back. back ≡ ticket) }
-{
-    match queue.try_send(rt, ticket) {
-        Err(TrySendError::Full(ticket)) => Some(ticket),
-        _ => None,
-    }
-}
-
-// Sends a worker a ticket. The ticket is returned if the channel is still full after a short wait.
-fn offer_for_a_moment<K: HouseName, R: Wait + Clock>(
-    rt: &R,
-    queue: &Sender<Ticket<K>>,
-    ticket: Ticket<K>,
-) -> Option<Ticket<K>>
-    ensures { IfSome result (λ back. back ≡ ticket) }
-{
-    match queue.send_timeout(rt, ticket, Duration::from_millis(MOMENT)) {
-        Err(SendTimeoutError::Timeout(ticket)) => Some(ticket),
-        _ => None,
-    }
-}
-
-// Sends a worker the datagram that has waited longest, if there is one. Its ticket is returned if
-// the channel is full.
-fn offer_first<K: HouseName, R: Wait>(
-    rt: &R,
-    node: NodeId,
-    queue: &Sender<Ticket<K>>,
-    backlog: &mut Backlog,
-) -> Option<Ticket<K>>
-    ensures others { backlog.new ≡ drop 1 backlog.old }
-    ensures back { IfSome result (λ back. IsOfFirst node backlog.old back.job) }
-{
-    let datagram = backlog.pop()?;
-    offer(rt, queue, arrival_ticket(node, datagram))
-}
 
 // Puts a datagram into the backlog, unless there is no room for it or no memory.
 fn keep(alloc: Global, backlog: &mut Backlog, datagram: &[u8])
@@ -118,15 +57,14 @@ fn empty_socket(alloc: Global, station: &Station, room: &mut [u8; ROOM], backlog
     }
 }
 
-// A node, with what its receiver uses.
+// What the receiver of a node uses.
 #[derive(Drop)]
 struct NodeReceiver<'a, K: HouseName, R: Wait> {
     rt: &'a R,
     alloc: Global,
     stop: &'a Stop,
-    node: NodeId,
     station: &'a Station,
-    queue: &'a Sender<Ticket<K>>,
+    queue: ArrivalQueue<'a, K>,
 }
 
 // Passes on the datagrams for which the channel had no room, and those that come meanwhile, until
@@ -134,9 +72,9 @@ struct NodeReceiver<'a, K: HouseName, R: Wait> {
 fn catch_up<K: HouseName, R: Wait + Clock>(
     receiver: &NodeReceiver<'_, K, R>,
     room: &mut [u8; ROOM],
-    refused: Option<Ticket<K>>,
+    refused: Option<Arrival>,
 ) {
-    let (rt, alloc, queue) = (receiver.rt, receiver.alloc, receiver.queue);
+    let (rt, alloc, queue) = (receiver.rt, receiver.alloc, &receiver.queue);
     let is_ready = receiver.station.udp.set_nonblocking(true).is_ok();
     let mut backlog = Backlog::new(alloc);
     let mut next = refused;
@@ -149,8 +87,11 @@ fn catch_up<K: HouseName, R: Wait + Clock>(
             break;
         }
         next = match next {
-            Some(ticket) => offer_for_a_moment(rt, queue, ticket),
-            None => offer_first(rt, receiver.node, queue, &mut backlog),
+            Some(arrival) => queue.offer_again(rt, arrival).into_arrival(),
+            None => match queue.offer_first(rt, &mut backlog) {
+                Some(offered) => offered.into_arrival(),
+                None => None,
+            },
         };
         if next.is_none() && backlog.is_empty() {
             break;
@@ -160,30 +101,19 @@ fn catch_up<K: HouseName, R: Wait + Clock>(
     let _ = receiver.station.udp.set_nonblocking(false);
 }
 
-// A copy of a datagram, in a spare buffer if there is one. `None` if memory was refused.
-fn copy_of(alloc: Global, spares: &Spares, datagram: &[u8]) -> Option<Vec<u8>>
-    ensures { IfSome result (λ copy. copy.items ≡ datagram.now) }
-{
-    let mut copy = spares.take().unwrap_or(Vec::new(alloc));
-    copy.clear();
-    copy.extend_from_slice(datagram).ok()?;
-    Some(copy)
-}
-
-// Passes on a datagram that has come. Its ticket is returned if the channel is full. Without memory
+// Passes on a datagram that has come. Its arrival is returned if the channel is full. Without memory
 // the datagram is lost.
 fn hand_on<K: HouseName, R: Wait>(
-    rt: &R,
-    alloc: Global,
-    node: NodeId,
-    spares: &Spares,
-    queue: &Sender<Ticket<K>>,
+    receiver: &NodeReceiver<'_, K, R>,
     datagram: &[u8],
-) -> Option<Ticket<K>>
-    ensures { IfSome result (λ back. IsArrival node datagram.now back.job) }
+) -> Option<Arrival>
+    ensures { IfSome result (λ back. back ≡ datagram.now) }
 {
-    let datagram = copy_of(alloc, spares, datagram)?;
-    offer(rt, queue, arrival_ticket(node, datagram))
+    let (rt, alloc, spares) = (receiver.rt, receiver.alloc, &receiver.station.spares);
+    match receiver.queue.hand_on(rt, alloc, spares, datagram) {
+        Ok(offered) => offered.into_arrival(),
+        Err(_) => None,
+    }
 }
 
 /// Hands the datagrams of a node's station to its worker, the oldest first, until the stop is set.
@@ -191,21 +121,20 @@ fn hand_on<K: HouseName, R: Wait>(
 ///
 /// While the channel is full, it keeps new datagrams in a `Backlog`, says how much that holds
 /// (`InFlight::keep`), and checks the stop each millisecond. Once the backlog is full, datagrams stay
-/// in the socket. Datagrams that still wait when the stop is set are dropped. A datagram is lost if memory for it is refused. After an error
-/// of the socket, the receiver rests for 10 milliseconds and goes on.
+/// in the socket. Datagrams that still wait when the stop is set are dropped. A datagram is lost if
+/// memory for it is refused. After an error of the socket, the receiver rests for 10 milliseconds
+/// and goes on.
 pub fn receive<'s, K: HouseName, R: Wait + Clock>(
     rt: &R,
     alloc: Global,
     stop: &'s Stop,
-    node: NodeId,
     station: &Station,
-    queue: &Sender<Ticket<K>>,
+    queue: ArrivalQueue<'_, K>,
 ) -> StopSeen<'s> {
     let receiver = NodeReceiver {
         rt,
         alloc,
         stop,
-        node,
         station,
         queue,
     };
@@ -219,14 +148,7 @@ pub fn receive<'s, K: HouseName, R: Wait + Clock>(
         let refused = match received {
             Ok((count, _)) => {
                 station.in_flight.leave(count);
-                hand_on(
-                    rt,
-                    alloc,
-                    node,
-                    &receiver.station.spares,
-                    queue,
-                    &room[..count],
-                )
+                hand_on(&receiver, &room[..count])
             }
             Err(_) => {
                 rest(rt);

@@ -4,6 +4,7 @@ ghost use Rattle.std.specs.Prelude.{◌≡◌, IfOk, None, Some, is_some, option
 ghost use Rattle.urb_worker.specs.internal.Doors.{tcp_listener, unix_listener};
 
 use crate::door::{Door, close_door};
+use crate::handed::send_datagram;
 use crate::{Bell, InFlight, Spares};
 use std::net::{Ipv4Addr, Net, SocketAddr, TcpListener, TcpStream, UdpSocket};
 use std::os::unix::net::UnixListener;
@@ -74,7 +75,7 @@ impl Station {
     /// ringer and the sessions that wait for entries. A connection wakes the acceptor at the TCP port.
     /// The Unix socket takes no clients from then on, which ends the wait for them.
     pub fn wake<R: Net<Listener = TcpListener, Stream = TcpStream>>(&self, rt: &R) {
-        let _ = self.udp.send_to(&[], (Ipv4Addr::LOCALHOST, self.udp_port));
+        drop(send_datagram(&self.udp, self.udp_port, &[]));
         if self.tcp.is_some() {
             let at = SocketAddr::from((Ipv4Addr::LOCALHOST, self.tcp_port));
             let _ = TcpStream::connect_timeout(rt, &at, Duration::from_millis(PATIENCE));

@@ -19,8 +19,8 @@ use urb_group::MemStable;
 use urb_names::{ClientId, MAX_PAYLOAD, NodeId, Payload};
 use urb_show::{HouseName, Opened};
 use urb_worker::{
-    Gate, HubName, Job, Link, MemoryLink, OpenGate, PacedLink, Station, Stop, Ticket, UdpLink,
-    receive, serve,
+    ArrivalQueue, Gate, HubName, Job, Link, MemoryLink, OpenGate, PacedLink, Station, Stop, Ticket,
+    UdpLink, receive, serve,
 };
 
 // The number of messages that node 2 has sent: the group's cap.
@@ -158,7 +158,7 @@ fn take_datagrams<K: HouseName, R: Wait + Clock>(
     line: &Sender<Ticket<K>>,
 ) {
     if let Some(node) = NodeId::new(number) {
-        let _ = receive(rt, alloc, stop, node, station, line);
+        let _ = receive(rt, alloc, stop, station, ArrivalQueue::new(node, line));
     }
 }
 

@@ -10,7 +10,9 @@ use std::thread;
 use std::thread::Threads;
 use std::time::{Clock, Duration};
 use urb_names::{MAX_PACKET, NodeId};
-use urb_worker::{BACKLOG, Job, KEEPING, Link, PacedLink, Station, Stop, Ticket, UdpLink, receive};
+use urb_worker::{
+    ArrivalQueue, BACKLOG, Job, KEEPING, Link, PacedLink, Station, Stop, Ticket, UdpLink, receive,
+};
 
 // The bytes of the longest packet.
 const LONGEST: usize = MAX_PACKET;
@@ -155,7 +157,7 @@ fn run_receiver<R: Threads + Wait + Clock + Net<Listener = TcpListener, Stream =
     let (stop, stations, link, jobs) = (&stop, stations.as_slice(), &link, &jobs);
     let (_, arrived) = thread::join(
         rt,
-        move || receive(rt, alloc, stop, node, station, &line),
+        move || receive(rt, alloc, stop, station, ArrivalQueue::new(node, &line)),
         move || {
             let arrived = play(rt, alloc, stations, link, jobs, course);
             stop.set();

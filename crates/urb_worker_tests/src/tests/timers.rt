@@ -8,7 +8,7 @@ use std::test::Fail;
 use std::thread;
 use std::thread::Threads;
 use std::time::{Clock, Duration, Instant};
-use urb_worker::{Job, Stop, Ticket, timer};
+use urb_worker::{Job, Stop, TickQueues, Ticket, timer};
 
 // Whether a ticket is a tick of this node, and nobody waits for its answer.
 fn is_tick_at(ticket: &Ticket<Brand>, number: u8) -> bool {
@@ -86,10 +86,11 @@ fn ticks<R: Threads + Wait + Clock + Sync>(
     let (lines, ends) = make_queues(alloc, 7)?;
     let stop = Stop::new();
     let (stop, lines, ends) = (&stop, lines.as_slice(), ends.as_slice());
+    let queues = TickQueues::of(lines)?;
     let began = Instant::now(rt).ok()?;
     let (_, have_come) = thread::join(
         rt,
-        move || timer(rt, stop, millis, lines),
+        move || timer(rt, stop, millis, queues),
         move || {
             let mut have_come = true;
             for _i in 0..count {
@@ -105,11 +106,14 @@ fn ticks<R: Threads + Wait + Clock + Sync>(
 
 // A timer whose tick is ten minutes off, and a stop that is set soon.
 fn is_stopped<R: Threads + Wait + Clock + Sync>(rt: &R) -> bool {
+    let Some(queues) = TickQueues::<Brand>::of(&[]) else {
+        return false;
+    };
     let stop = Stop::new();
     let stop = &stop;
     let (_, was_set) = thread::join(
         rt,
-        move || timer::<Brand, R>(rt, stop, 600_000, &[]),
+        move || timer(rt, stop, 600_000, queues),
         move || {
             let was_set = stop.is_set();
             thread::sleep(rt, Duration::from_millis(10));
@@ -126,6 +130,15 @@ fn a_timer_ticks_at_each_of_seven_nodes_in_its_time(rt: HostRuntime) -> Result<(
     assert!(rt; are_ticks);
     // The second tick comes after two times that.
     assert!(rt; took >= Duration::from_millis(40), "{took:?}");
+    Ok(())
+}
+
+#[test]
+fn a_timer_takes_no_queue_of_an_eighth_node(rt: HostRuntime) -> Result<(), Fail> {
+    let (seven, _ends) = make_queues(rt.alloc(), 7).ok_or("memory")?;
+    let (eight, _others) = make_queues(rt.alloc(), 8).ok_or("memory")?;
+    assert!(rt; TickQueues::of(seven.as_slice()).is_some());
+    assert!(rt; TickQueues::of(eight.as_slice()).is_none());
     Ok(())
 }
 
