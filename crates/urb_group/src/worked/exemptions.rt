@@ -35,9 +35,9 @@ pub fn what_need_not_be_delivered()
     ensures by_an_eighth_node { AllDelivered (record (started (limits 7 10))
         { node = λ p. if is_node 7 p then node_in Ready [] else node_in (Down None) [] }) }
     ensures of_an_eighth_node { HasDelivered (record (started (limits 7 10)) {
-          node = λ p. if is_node 7 p then node_in Ready [] else
-              record (node_in Ready []) { broadcast = message 7 1 "" ∷ [] };
-        }) 1 }
+      node = λ p. if is_node 7 p then node_in Ready [] else
+          record (node_in Ready []) { broadcast = message 7 1 "" ∷ [] };
+    }) 1 }
     ensures by_another_node { HaveDeliveredHeld (λ p. p == 1)
         (opened (limits 7 10) (image_of ((certified 1 1 ∷ []) ∷ [])))
         (opened (limits 7 10) (image_of ((certified 1 1 ∷ []) ∷ []))) }

@@ -13,8 +13,8 @@ ghost use Rattle.urb_group.specs.internal.Scripts.{message};
 pub fn what_can_be_delivered()
     ensures all_of_a_new_group { CanDeliver (started (limits 4 10)) }
     ensures nothing_that_was_not_stored { CanDeliver (record (started (limits 4 10)) {
-          node = λ p. record (node_in Ready []) { broadcast = message 7 1 "" ∷ [] };
-        }) → ⊥ }
+      node = λ p. record (node_in Ready []) { broadcast = message 7 1 "" ∷ [] };
+    }) → ⊥ }
 {}
 
 /// A new group loses nothing at a stop.

@@ -41,7 +41,6 @@ broadcast_if is =
     (if is then node_in Ready [] else
     record (node_in Ready []) { broadcast = message 7 1 "" ∷ [] }).broadcast
 
-
 pub returns-clause-of_an_eighth_node : goal.returns-clause-of_an_eighth_node
 returns-clause-of_an_eighth_node c = record {
   ready = refl;

@@ -25,19 +25,19 @@ shows : (items : List Told) (x : Told) → items ≡ x ∷ [] → Contains items
 shows items x is = subst (λ (l : List Told). Contains l x) (sym is) (0, omega arith, refl)
 
 pub returns-clause-two_messages : goal.returns-clause-two_messages
-returns-clause-two_messages c a b one other never = 
+returns-clause-two_messages c a b one other never =
     apart (never (told 1 1 "a") (told 1 1 "b") (shows a.entries.items _ one)
     (shows b.entries.items _ other) refl)
 
 pub returns-clause-the_same_message : goal.returns-clause-the_same_message
-returns-clause-the_same_message c a b one other e f in_one in_other same = 
+returns-clause-the_same_message c a b one other e f in_one in_other same =
     sym (shown a.entries.items _ e one in_one) ∙ shown b.entries.items _ f other in_other
 
 pub returns-clause-two_names : goal.returns-clause-two_names
-returns-clause-two_names c a b one other e f in_one in_other same = 
+returns-clause-two_names c a b one other e f in_one in_other same =
     let first : 1 ≡ e.name.seq =
-        ap (λ (it : Told). it.name.seq) (shown a.entries.items _ e one in_one) in
+    ap (λ (it : Told). it.name.seq) (shown a.entries.items _ e one in_one) in
     let second : 2 ≡ f.name.seq =
-        ap (λ (it : Told). it.name.seq) (shown b.entries.items _ f other in_other) in
+    ap (λ (it : Told). it.name.seq) (shown b.entries.items _ f other in_other) in
     let both : e.name.seq ≡ f.name.seq = ap (λ (x : Label). x.seq) same in
     absurd (omega (arith, first, second, both))

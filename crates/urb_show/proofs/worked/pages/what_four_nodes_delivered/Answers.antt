@@ -54,7 +54,7 @@ returns-clause-no_entry c have = some-none _ _ (have 0).1
 
 pub returns-clause-no_entry_by_a_new_group : goal.returns-clause-no_entry_by_a_new_group
 unfolding run
-returns-clause-no_entry_by_a_new_group c are = 
+returns-clause-no_entry_by_a_new_group c are =
     let begins = are (started (limits 4 10)) shows_new 0 in some-none _ _ begins.1
 
 pub returns-clause-anything_by_none : goal.returns-clause-anything_by_none

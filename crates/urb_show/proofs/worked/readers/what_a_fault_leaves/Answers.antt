@@ -47,7 +47,7 @@ returns-clause-what_a_read_takes c cause = inr (record {
 })
 
 pub returns-clause-less_than_there_was : goal.returns-clause-less_than_there_was
-returns-clause-less_than_there_was c cause leaves = 
+returns-clause-less_than_there_was c cause leaves =
     ⊎_elim (λ same. none-some (Tick 1) [] (ap (λ (r : ReaderView). r.past) same))
     (λ takes. some-none (Tick 1) _ takes.past.1) leaves
 
@@ -55,5 +55,5 @@ pub returns-clause-all_of_a_closed_house : goal.returns-clause-all_of_a_closed_h
 returns-clause-all_of_a_closed_house c = refl
 
 pub returns-clause-a_closed_house_is_not_read : goal.returns-clause-a_closed_house_is_not_read
-returns-clause-a_closed_house_is_not_read c same = 
+returns-clause-a_closed_house_is_not_read c same =
     some-none (Tick 1) [] (ap (λ (r : ReaderView). r.past) same)

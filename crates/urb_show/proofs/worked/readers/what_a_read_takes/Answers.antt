@@ -75,10 +75,10 @@ pub returns-clause-lists_that_disagree : goal.returns-clause-lists_that_disagree
 returns-clause-lists_that_disagree c takes = let e = takes.agree.numbers 0 1 in cc
 
 pub returns-clause-less_than_it_saw : goal.returns-clause-less_than_it_saw
-returns-clause-less_than_it_saw c takes = lost _ _ takes.seen
+returns-clause-less_than_it_saw c takes = lost [] [] takes.seen
 
 pub returns-clause-less_than_it_learnt : goal.returns-clause-less_than_it_learnt
-returns-clause-less_than_it_learnt c takes = lost _ _ takes.told
+returns-clause-less_than_it_learnt c takes = lost [] [] takes.told
 
 pub returns-clause-it_forgets_what_it_learnt : goal.returns-clause-it_forgets_what_it_learnt
 returns-clause-it_forgets_what_it_learnt c takes = none-some [] [] takes.kept
@@ -88,6 +88,6 @@ returns-clause-it_forgets_an_event c takes = some-none (Tick 1) _ takes.past.1
 
 pub returns-clause-what_no_node_delivered : goal.returns-clause-what_no_node_delivered
 unfolding run
-returns-clause-what_no_node_delivered c takes = 
+returns-clause-what_no_node_delivered c takes =
     let begins = takes.delivered (started (limits 4 10)) shows_new 0 in
     some-none _ _ begins.1

@@ -16,10 +16,10 @@ pub returns-clause-what_nobody_told : goal.returns-clause-what_nobody_told
 returns-clause-what_nobody_told c learns = ⊎_elim (some-none [] []) (some-none [] []) learns.one
 
 pub returns-clause-less_than_it_knew : goal.returns-clause-less_than_it_knew
-returns-clause-less_than_it_knew c learns = lost _ _ learns.earlier
+returns-clause-less_than_it_knew c learns = lost [] [] learns.earlier
 
 pub returns-clause-less_than_the_token : goal.returns-clause-less_than_the_token
-returns-clause-less_than_the_token c learns = lost _ _ learns.told
+returns-clause-less_than_the_token c learns = lost [] [] learns.told
 
 pub returns-clause-other_lists_are_seen : goal.returns-clause-other_lists_are_seen
 returns-clause-other_lists_are_seen c learns = some-none [] [] learns.seen
@@ -28,7 +28,7 @@ pub returns-clause-an_earlier_moment : goal.returns-clause-an_earlier_moment
 returns-clause-an_earlier_moment c learns = some-none (Tick 1) _ learns.past.earlier.1
 
 pub returns-clause-a_moment_of_nobody : goal.returns-clause-a_moment_of_nobody
-returns-clause-a_moment_of_nobody c learns = 
+returns-clause-a_moment_of_nobody c learns =
     ⊎_elim (some-none (Tick 1) []) (some-none (Tick 1) []) learns.one
 
 pub returns-clause-less_than_its_moment : goal.returns-clause-less_than_its_moment

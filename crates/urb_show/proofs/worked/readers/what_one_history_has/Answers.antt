@@ -12,7 +12,7 @@ lost : (xs ys : Lists) → Begins ((told 1 1 "a" ∷ []) ∷ xs) ([] ∷ ys) →
 lost xs ys (first, rest) = some-none (told 1 1 "a") _ first.1
 
 lost_second : Begins ([] ∷ (told 1 1 "a" ∷ []) ∷ []) ((told 1 1 "a" ∷ []) ∷ [] ∷ []) → ⊥
-lost_second (first, second, rest) = some-none (told 1 1 "a") _ second.1
+lost_second (first, (second, rest)) = some-none (told 1 1 "a") _ second.1
 
 pub returns-clause-first_lists_that_disagree : goal.returns-clause-first_lists_that_disagree
 returns-clause-first_lists_that_disagree c history = let e = history.these_agree.numbers 0 1 in cc
@@ -21,6 +21,6 @@ pub returns-clause-second_lists_that_disagree : goal.returns-clause-second_lists
 returns-clause-second_lists_that_disagree c history = let e = history.those_agree.numbers 0 1 in cc
 
 pub returns-clause-each_is_ahead_at_a_node : goal.returns-clause-each_is_ahead_at_a_node
-returns-clause-each_is_ahead_at_a_node c history = 
-    ⊎_elim (lost _ _)
+returns-clause-each_is_ahead_at_a_node c history =
+    ⊎_elim (lost ([] ∷ []) ((told 1 1 "a" ∷ []) ∷ []))
     lost_second history.one_begins
