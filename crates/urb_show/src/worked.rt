@@ -12,6 +12,8 @@ ghost use Rattle.urb_show.specs.Lists.{Agree, Begins, list_at, lists_in};
 pub mod pages;
 pub mod readers;
 pub mod service;
+pub mod service_acts;
+pub mod shown_events;
 
 /// A node's list has the names of its log, in the log's order, each with its message. If there is
 /// no such node, the list is empty.

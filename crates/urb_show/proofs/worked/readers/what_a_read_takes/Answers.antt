@@ -75,10 +75,10 @@ pub returns-clause-lists_that_disagree : goal.returns-clause-lists_that_disagree
 returns-clause-lists_that_disagree c takes = let e = takes.agree.numbers 0 1 in cc
 
 pub returns-clause-less_than_it_saw : goal.returns-clause-less_than_it_saw
-returns-clause-less_than_it_saw c takes = lost _ _ takes.seen
+returns-clause-less_than_it_saw c takes = lost [] [] takes.seen
 
 pub returns-clause-less_than_it_learnt : goal.returns-clause-less_than_it_learnt
-returns-clause-less_than_it_learnt c takes = lost _ _ takes.told
+returns-clause-less_than_it_learnt c takes = lost [] [] takes.told
 
 pub returns-clause-it_forgets_what_it_learnt : goal.returns-clause-it_forgets_what_it_learnt
 returns-clause-it_forgets_what_it_learnt c takes = none-some [] [] takes.kept

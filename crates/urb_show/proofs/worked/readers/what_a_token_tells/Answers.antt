@@ -16,10 +16,10 @@ pub returns-clause-what_nobody_told : goal.returns-clause-what_nobody_told
 returns-clause-what_nobody_told c learns = ⊎_elim (some-none [] []) (some-none [] []) learns.one
 
 pub returns-clause-less_than_it_knew : goal.returns-clause-less_than_it_knew
-returns-clause-less_than_it_knew c learns = lost _ _ learns.earlier
+returns-clause-less_than_it_knew c learns = lost [] [] learns.earlier
 
 pub returns-clause-less_than_the_token : goal.returns-clause-less_than_the_token
-returns-clause-less_than_the_token c learns = lost _ _ learns.told
+returns-clause-less_than_the_token c learns = lost [] [] learns.told
 
 pub returns-clause-other_lists_are_seen : goal.returns-clause-other_lists_are_seen
 returns-clause-other_lists_are_seen c learns = some-none [] [] learns.seen

@@ -12,7 +12,7 @@ lost : (xs ys : Lists) → Begins ((told 1 1 "a" ∷ []) ∷ xs) ([] ∷ ys) →
 lost xs ys (first, rest) = some-none (told 1 1 "a") _ first.1
 
 lost_second : Begins ([] ∷ (told 1 1 "a" ∷ []) ∷ []) ((told 1 1 "a" ∷ []) ∷ [] ∷ []) → ⊥
-lost_second (first, second, rest) = some-none (told 1 1 "a") _ second.1
+lost_second (first, (second, rest)) = some-none (told 1 1 "a") _ second.1
 
 pub returns-clause-first_lists_that_disagree : goal.returns-clause-first_lists_that_disagree
 returns-clause-first_lists_that_disagree c history = let e = history.these_agree.numbers 0 1 in cc
@@ -22,5 +22,9 @@ returns-clause-second_lists_that_disagree c history = let e = history.those_agre
 
 pub returns-clause-each_is_ahead_at_a_node : goal.returns-clause-each_is_ahead_at_a_node
 returns-clause-each_is_ahead_at_a_node c history =
+<<<<<<< HEAD
     ⊎_elim (lost _ _)
+=======
+    ⊎_elim (lost ([] ∷ []) ((told 1 1 "a" ∷ []) ∷ []))
+>>>>>>> 90bc9ea140d9e9707e15bebb44d6400093298b43
     lost_second history.one_begins
