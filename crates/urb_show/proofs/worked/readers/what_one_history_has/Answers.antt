@@ -22,9 +22,5 @@ returns-clause-second_lists_that_disagree c history = let e = history.those_agre
 
 pub returns-clause-each_is_ahead_at_a_node : goal.returns-clause-each_is_ahead_at_a_node
 returns-clause-each_is_ahead_at_a_node c history =
-<<<<<<< HEAD
-    ⊎_elim (lost _ _)
-=======
     ⊎_elim (lost ([] ∷ []) ((told 1 1 "a" ∷ []) ∷ []))
->>>>>>> 90bc9ea140d9e9707e15bebb44d6400093298b43
     lost_second history.one_begins
