@@ -11,4 +11,3 @@ pub mod Pulses
 pub mod OwnJobs
 pub mod Doors
 pub mod SeenEvents
-pub mod DeskExamples
