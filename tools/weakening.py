@@ -381,8 +381,10 @@ def size_in(block: Block) -> str | None:
         if kind.strip() in SIZES:
             return SIZES[kind.strip()].format(names.split()[0])
     kinds = [it.strip() for it in split_at(block.head.partition(" : ")[2], "→")]
-    for at, kind in enumerate(kinds[:-1]):
-        named = NAME.findall(block.equations[0].left)[1:] if block.equations else []
+    explicit = [kind for kind in kinds[:-1] if not kind.startswith("{")]
+    for at, kind in enumerate(explicit):
+        left = re.sub(r"\{[^{}]*\}", "", block.equations[0].left) if block.equations else ""
+        named = NAME.findall(left)[1:]
         if kind in SIZES and at < len(named):
             return SIZES[kind].format(named[at])
     return None

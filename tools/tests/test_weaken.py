@@ -65,6 +65,10 @@ WORLD = """
     abbrev pub shown : ℕ → List ℕ × ℕ
     shown p = ([], p)
 
+    -- a value in a world
+    abbrev pub IsIn : {A : Type 0} → World → A → Type 0
+    IsIn w a = a ≡ a
+
     -- a case
     pub data Kind : Type 0 where
       One : Kind
@@ -132,6 +136,10 @@ class Making(WeakeningTest):
         rights = [it.rpartition(" p = ")[2] for it in self.texts("IsKnown", "few")]
         body = "((w.size ≡ w.size) × (p ≡ p))"
         self.assertEqual(rights, [f"(w.size.n ≤ 3) × {body}", f"w.size.n ≤ 3 → {body}"])
+
+    def test_a_type_that_is_left_out_is_no_world(self) -> None:
+        false, _ = self.texts("IsIn", "few")
+        self.assertTrue(false.endswith("IsIn w a = (w.size.n ≤ 3) × (a ≡ a)"), false)
 
     def test_a_claim_of_nothing_and_a_false_one_have_one_version_each(self) -> None:
         false, nothing = self.texts("IsOpen", "few")

@@ -12,4 +12,3 @@ pub mod Pulses
 pub mod OwnJobs
 pub mod Doors
 pub mod SeenEvents
-pub mod DeskExamples
