@@ -1,6 +1,6 @@
 //! A worker's tickets: the next one, or that its channel has closed.
 
-ghost use Rattle.std.specs.Prelude.{◌≡◌, ◌≤◌, IfOk, IsSome, true};
+ghost use Rattle.std.specs.Prelude.{◌≡◌, ◌≤◌, Err, IfErr, IfOk, IsSome, true};
 ghost use Rattle.urb_worker.specs.internal.Pulses.{is_endless};
 
 use crate::Ticket;
@@ -33,23 +33,37 @@ pub(crate) enum Patience {
     Endless,
 }
 
-// A ticket that is there, or `None` if none is.
-fn ticket_there<'q, K: HouseName, R: Wait>(
-    rt: &R,
+// What came of a look into the channel: a ticket, or `None` if none was there.
+fn after_look<'q, K: HouseName>(
     jobs: &'q Receiver<Ticket<K>>,
-) -> Result<Option<Ticket<K>>, Closed<'q>> {
-    match jobs.try_recv(rt) {
+    came: Result<Ticket<K>, TryRecvError>,
+) -> Result<Option<Ticket<K>>, Closed<'q>>
+    // It says that the channel has closed only if the look said so.
+    ensures closed { IfErr result (λ it. came ≡ Err TryRecvError.Disconnected) }
+{
+    match came {
         Ok(ticket) => Ok(Some(ticket)),
         Err(TryRecvError::Disconnected) => Err(end_of(jobs)),
         Err(TryRecvError::Empty) => Ok(None),
     }
 }
 
+// A ticket that is there, or `None` if none is.
+fn ticket_there<'q, K: HouseName, R: Wait>(
+    rt: &R,
+    jobs: &'q Receiver<Ticket<K>>,
+) -> Result<Option<Ticket<K>>, Closed<'q>> {
+    after_look(jobs, jobs.try_recv(rt))
+}
+
 // What came of a wait with an end: a ticket, or `None` if none came in time.
 fn after_wait<'q, K: HouseName>(
     jobs: &'q Receiver<Ticket<K>>,
     came: Result<Ticket<K>, RecvTimeoutError>,
-) -> Result<Option<Ticket<K>>, Closed<'q>> {
+) -> Result<Option<Ticket<K>>, Closed<'q>>
+    // It says that the channel has closed only if the wait said so.
+    ensures closed { IfErr result (λ it. came ≡ Err RecvTimeoutError.Disconnected) }
+{
     match came {
         Ok(ticket) => Ok(Some(ticket)),
         Err(RecvTimeoutError::Disconnected) => Err(end_of(jobs)),

@@ -38,6 +38,7 @@ mod sockets;
 mod spares;
 mod stations;
 mod strays;
+mod time_limits;
 mod timers;
 mod turns;
 

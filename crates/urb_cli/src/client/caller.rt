@@ -1,9 +1,10 @@
 //! A caller asks a node, one request after the other, over connections that may break.
 
-ghost use Rattle.std.specs.Prelude.{Option};
+ghost use Rattle.std.specs.Prelude.{◌≡◌, ◌⊎◌, ℕ, false, suc, IfErr, Option};
 ghost use Rattle.urb_client.specs.Requests.{Asked, IsAsked, IsShort, asked_by};
 ghost use Rattle.urb_client.specs.Responses.{Said};
-ghost use Rattle.urb_cli.specs.Calls.{Insists, answer_of};
+ghost use Rattle.urb_cli.specs.Calls.{Fails, Insists, answer_of};
+ghost use Rattle.urb_cli.specs.declared.client.caller.TheConstants.{TRIES};
 
 use crate::client::call_fault::CallFault;
 use crate::faults::Fault;
@@ -31,7 +32,9 @@ pub trait Caller {
 }
 
 // Whether the same call may have a response a moment later.
-fn may_pass(fault: CallFault) -> bool {
+fn may_pass(fault: CallFault) -> bool
+    ensures { result ≡ false → fault ≡ CallFault.Broken Fault.NoMemory }
+{
     !matches!(&fault, CallFault::Broken(Fault::NoMemory))
 }
 
@@ -41,7 +44,11 @@ fn may_pass(fault: CallFault) -> bool {
 pub(crate) fn insist<C: Caller>(caller: &mut C, request: &Request) -> Result<Response, CallFault>
     requires values { IsAsked (asked_by request.now) }
     requires short { IsShort (asked_by request.now) }
-    ensures { Insists C.calls (asked_by request.now) caller.old (answer_of result) caller.new }
+    ensures same { Insists C.calls (asked_by request.now) caller.old (answer_of result) caller.new }
+    // It gives up only after `TRIES` calls without a response and one more, or without memory.
+    ensures patience { IfErr result (λ fault. (fault ≡ CallFault.Broken Fault.NoMemory)
+        ⊎ ((n : ℕ) × (n ≡ suc TRIES)
+        × Fails C.calls (asked_by request.now) caller.old n caller.new)) }
 {
     for _ in 0..TRIES {
         let outcome = caller.call(request);
