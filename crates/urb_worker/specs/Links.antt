@@ -45,8 +45,8 @@ IsByPort None taken = IsToNobody taken
 abbrev pub IsByPorts : List ℕ → ℕ → Way → Type 0
 IsByPorts ports target taken = IsByPort (slice_get ports (target - 1)) taken
 
--- the way into so many mailboxes, of the nodes 1, 2, ..: if there is one for the target, the bytes are
--- in a mailbox, or memory was refused
+-- the way into so many mailboxes, of the nodes 1, 2, ..: if there is one for the target, the bytes
+-- are in a mailbox, or memory was refused
 abbrev pub IsByMailboxes : ℕ → ℕ → Way → Type 0
 IsByMailboxes count target taken =
     IsToMailbox taken ⊎ IsRefused taken ⊎ ((count < target) × IsToNobody taken)

@@ -1,7 +1,7 @@
 //! The way from the timer to the workers: only ticks go through it, to each worker those of its
 //! node.
 
-ghost use Rattle.std.specs.Prelude.{◌≡◌, ◌+◌, ◌<◌, ◌≤◌, MatchOption, Some, length, slice_get};
+ghost use Rattle.std.specs.Prelude.{◌≡◌, ◌+◌, ◌<◌, ◌≤◌, MatchOption, length};
 ghost use Rattle.urb_names.specs.declared.limits.TheConstants.{MAX_NODES};
 ghost use Rattle.urb_worker.specs.internal.Ticks.{IsTick};
 
@@ -91,8 +91,7 @@ impl<'a, K: HouseName> TickQueues<'a, K> {
     // The queue at this place. The places 0, 1, .. are those of nodes 1, 2, ..
     fn at(&self, place: usize) -> TickQueue<'a, K>
         requires { place < length self.now.senders.now }
-        ensures node { result.node ≡ place + 1 }
-        ensures sender { slice_get self.now.senders.now place ≡ Some result.sender.now }
+        ensures { result.node ≡ place + 1 }
     {
         TickQueue {
             node: NodeId::new(place as u8 + 1).unwrap(),
