@@ -9,7 +9,8 @@ use std::os::unix::fs::{FileTypeExt, MetadataExt, PermissionsExt};
 use std::os::unix::net::{UnixListener, UnixStream};
 use std::rt::Files;
 use std::test::Fail;
-use std::{fs, io};
+use std::time::Duration;
+use std::{fs, io, thread};
 use urb_cli::{DoorOptions, ServeOptions, SocketOptions};
 use urb_daemon::{
     Console, Host, MAX_SOCKET_PATH, NetworkFault, ServeFault, SocketCause, judge_making,
@@ -40,6 +41,26 @@ fn sockets(mode: u16) -> Option<SocketOptions<'static>> {
 // The fault of a socket of node 1, if it can't be opened.
 fn fault_of<R: Files + Net>(rt: &R, alloc: Global) -> Option<SocketCause> {
     open_socket(rt, alloc, sockets(0o600)?, 1).err()
+}
+
+#[test]
+fn a_socket_waits_for_its_clients(rt: HostRuntime) -> Result<(), Fail> {
+    assert!(rt; is_cleared(&rt, rt.alloc()));
+    let sockets = sockets(0o600).ok_or("a mode")?;
+    let Ok(listener) = open_socket(&rt, rt.alloc(), sockets, 1) else {
+        return Err("a socket")?;
+    };
+    let (rt, listener) = (&rt, &listener);
+    let (has_come, ()) = thread::join(
+        rt,
+        move || listener.accept().is_ok(),
+        move || {
+            thread::sleep(rt, Duration::from_millis(100));
+            let _ = UnixStream::connect(rt, FIRST);
+        },
+    );
+    assert!(rt; has_come);
+    Ok(())
 }
 
 #[test]
