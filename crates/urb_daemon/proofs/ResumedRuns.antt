@@ -1,6 +1,6 @@
 -- A run over files that a stop had left resumes from the world before the stop.
-use Rattle.std.proofs.Common.{Bool, List, Ok, Result, Some, [], ap, arith, inl, inr, subst, suc, zero}
-use Rattle.std.proofs.Common.{ℕ, ◌∙◌, ◌∷◌, ◌≡◌}
+use Rattle.std.proofs.Common.{Bool, List, None, Ok, Result, Some, [], ap, arith, inl, inr, subst}
+use Rattle.std.proofs.Common.{suc, zero, ℕ, ◌<◌, ◌∙◌, ◌∷◌, ◌≡◌, ◌≤◌}
 use Rattle.std.proofs.lemmas.List.Elements.{recursion_from_All}
 use Rattle.std.specs.List.{All, AllByRecursion}
 use Rattle.std.specs.Prelude.{length, slice_get}
@@ -12,10 +12,16 @@ use Rattle.urb_group.proofs.stops.OpenedClusters.{given-count}
 use Rattle.urb_group.proofs.stops.SecuredClusters.{read-honest}
 use Rattle.urb_group.proofs.stops.StockedPlays.{chosen-left}
 use Rattle.urb_group.specs.GroupCalls.{Opens}
-use Rattle.urb_group.specs.GroupViews.{GroupView, IsSound}
-use Rattle.urb_group.specs.StoreContents.{AreChosen, IsKnown}
+use Rattle.urb_group.specs.GroupViews.{GroupView, IsSound, Shows}
+use Rattle.urb_group.specs.StoreContents.{AreChosen, IsKnown, WouldLeave}
 use Rattle.urb_group.specs.StoreOpenings.{AllGive, HasStopped}
 use Rattle.urb_group.specs.World.{World}
+use Rattle.sqlite.specs.Files.{HoldsDatabase}
+use Rattle.sqlite_trees.specs.Tree.{Trees}
+use Rattle.sqlite_wal.specs.Recovery.{Image}
+use Rattle.urb_sqlite.specs.FoundJournals.{AreFoundIn, HoldsRecords}
+use Rattle.urb_folder.proofs.StoppedFiles.{known_files, left_files, stopped_files}
+use Rattle.urb_folder.specs.StoppedFiles.{HasLeft, HoldsStopped}
 use Rattle.urb_daemon.proofs.Lives.{opened-goes-on}
 use Rattle.urb_daemon.specs.Lives.{OpensAfter}
 use Rattle.urb_daemon.specs.declared.serve_fault.ServeFault.{ServeFault}
@@ -104,3 +110,35 @@ resumes g old w size stores told end lasts count stopped known (inr e) =
     after =
         opens-given g old w size stores e.opens.images e.asked e.group stopped count e.opens.given
         known e.opens.opens e.sound
+
+-- a run over journals that were found in files
+pub resumes_found : {S A : Type 0} (g : Ghosts S A) (held : ℕ → Image) (size : Limits)
+    (journals : List S) (told : Bool) (end : Result ℕ ServeFault) (lasts : List S)
+    → ((old : GroupView) (w : World) → HasStopped g old w size journals
+    → EndsAfterStop g old w size journals told end lasts)
+    → AreFoundIn g held journals → length journals ≡ size.n
+    → ((j : S) → g.is_honest j → g.is_clean j) → ((j : S) → g.doubt j ≡ None)
+    → (old : GroupView) (w : World) → HasLeft held old w size
+    → Resumes g old w size journals told end lasts
+resumes_found g held size journals told end lasts goes_on found count cleans sure old w left =
+    let stopped = stopped_files g cleans sure held old w size journals count found left in
+    resumes g old w size journals told end lasts count stopped
+    (known_files g cleans sure held old w size journals count found left) (goes_on old w stopped)
+
+-- files in which a stop left what it may leave of the nodes
+pub left_over : {S A : Type 0} (g : Ghosts S A) (w : World) (journals : List S)
+    → WouldLeave g w journals → (may_leave : S → Trees → Type 0)
+    → ((j : S) (P : List Entry → Type 0) → g.leaves_only j P → (image : Image) (db : Trees)
+    → may_leave j db → HoldsDatabase image db
+    → (records : List Entry) × P records × HoldsRecords image records)
+    → (held : ℕ → Image) (old : GroupView) (size : Limits)
+    → IsSound old → length old.nodes ≡ old.size.n → old.size.n ≤ size.n → Shows old w
+    → length old.nodes ≤ length journals
+    → ((i : ℕ) (j : S) → slice_get journals i ≡ Some j
+    → HoldsStopped (g.is_clean j) (may_leave j) (held (suc i)))
+    → ((i : ℕ) → length journals ≤ i → i < size.n → HoldsRecords (held (suc i)) [])
+    → HasLeft held old w size
+left_over g w journals would may_leave leaves held old size sound counted nodes shows places stopped
+    none =
+    left_files g may_leave leaves held old w size journals sound counted nodes shows places would
+    stopped none

@@ -1,4 +1,5 @@
-use Rattle.std.proofs.Common.{sym, ◌∙◌}
+use Rattle.std.proofs.Common.{refl, sym, ◌∙◌}
+use Rattle.urb_daemon.proofs.ResumedRuns.{resumes_found}
 use Rattle.urb_daemon.proofs.program.run_folder.Goals as goal
 
 pub returns : goal.returns
@@ -17,14 +18,8 @@ returns g c =
       order = run.ensures.order;
       ends = run.ensures.ends;
       goes_on = run.ensures.goes_on;
-      resumes = λ old w left.
-          (let stopped =
-          stopped_files g.D.stable (λ j honest. honest.clean) (λ j. refl) g.D.held old w
-          (limits_of c.args.serving) c.args.journals.items count c.requires.found left in
-          resumes g.D.stable old w (limits_of c.args.serving) c.args.journals.items
-          run.new.console.is_told run.result.1 run.result.0.items count stopped
-          (known_files g.D.stable (λ j honest. honest.clean) (λ j. refl) g.D.held old w
-          (limits_of c.args.serving) c.args.journals.items count c.requires.found left)
-          (run.ensures.goes_on old w stopped));
+      resumes =
+          resumes_found _ _ _ c.args.journals.items _ _ _ run.ensures.goes_on c.requires.found count
+          (λ j honest. honest.clean) (λ j. refl);
       shows = c.report_end.ensures;
     }
