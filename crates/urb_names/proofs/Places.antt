@@ -22,6 +22,18 @@ get_front [] ys j h = absurd (omega arith)
 get_front (x ∷ xs) ys zero h = refl
 get_front (x ∷ xs) ys (suc j) h = get_front xs ys j (omega arith)
 
+-- an element stays at its place when others are added after the list
+pub get_stays : {A : Type 0} (xs ys : List A) (j : ℕ) (a : A) → slice_get xs j ≡ Some a
+    → slice_get (xs ++ ys) j ≡ Some a
+get_stays [] ys j a e = absurd cc
+get_stays (x ∷ xs) ys zero a e = e
+get_stays (x ∷ xs) ys (suc j) a e = get_stays xs ys j a e
+
+-- one more element makes a list longer by one
+pub one_longer : {A : Type 0} (xs : List A) (y : A) → length (xs ++ y ∷ []) ≡ suc (length xs)
+one_longer [] y = refl
+one_longer (x ∷ xs) y = ap suc (one_longer xs y)
+
 -- the element that is put last stands at the place after all others
 pub get_last : {A : Type 0} (xs : List A) (y : A) (j : ℕ) → j ≡ length xs
     → slice_get (xs ++ y ∷ []) j ≡ Some y

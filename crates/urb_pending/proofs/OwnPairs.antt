@@ -13,8 +13,7 @@ use Rattle.urb_names.specs.Release.{part_of}
 use Rattle.urb_names.specs.Pairs.{own, message_of}
 use Rattle.urb_names.specs.CyclicOrder.{are_rising, inserted}
 use Rattle.urb_names.proofs.SameNames.{same_name-true}
-use Rattle.urb_names.proofs.RisingPairs.{name_lt-trans}
-use Rattle.urb_pending.proofs.InsertedPairs.{not_before_itself}
+use Rattle.urb_names.proofs.RisingPairs.{name_lt-strict, name_lt-trans}
 
 -- whether a pair is this sender's
 abbrev pub is_of : ℕ → Label × Content → Bool
@@ -127,7 +126,7 @@ new_behind x (q ∷ qs) h = at (new_behind x qs) (same_name q.0 x) refl
         → list_all (λ r. name_lt r.0 x) (cond b (q ∷ mine x.sender qs) (mine x.sender qs)) ≡ true
         → ⊥
     not_here e true f l =
-        false≢true (sym (not_before_itself x)
+        false≢true (sym (name_lt-strict x)
         ∙ subst (λ (y : Label). name_lt y x ≡ true) e (and_parts (name_lt q.0 x) _ l).0)
     not_here e false f l =
         false≢true (sym f ∙ eq-eqb q.0.sender x.sender (ap (λ (y : Label). y.sender) e))

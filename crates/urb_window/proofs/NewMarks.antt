@@ -16,13 +16,13 @@ use Rattle.urb_names.proofs.ElementPlaces.{any_insert, placed_behind, placed_fro
 use Rattle.urb_window.specs.Entries.{entry_lt, value_of, with_value}
 use Rattle.urb_certified.specs.internal.StrictOrders.{IsOrder}
 use Rattle.urb_certified.proofs.RisingSets.{rising_same}
-use Rattle.urb_certified.proofs.NameOrder.{name_lt-strict}
 use Rattle.urb_window.specs.NodeMasks.{marks_in, has_bit, nodes_in}
 use Rattle.urb_window.specs.internal.EntryMasks.{mask_of}
 use Rattle.urb_window.proofs.AckOrder.{ack_lt-one_way, ack_lt-trans, acks_ordered, same_ack}
 use Rattle.urb_window.proofs.MaskBits.{set_is, set_more}
 use Rattle.urb_window.proofs.MaskPairs.{acked_is, marks_rise, is_one_of, none_behind, none_below}
 use Rattle.urb_window.proofs.MaskPairs.{one_between}
+use Rattle.urb_names.proofs.RisingPairs.{name_lt-strict}
 
 -- ---- one more bit
 
