@@ -77,6 +77,10 @@ impl Stable for Strange {
         self.store.store(pos, entry)
     }
 
+    fn store_all(&mut self, pos: u32, entries: &[Record]) -> Result<(), StoreFault> {
+        self.store.store_all(pos, entries)
+    }
+
     fn retrieve(&mut self, alloc: Global) -> Result<Vec<Record>, StoreFault> {
         match self.answer {
             Answer::Device if self.failures < u32::MAX => {
