@@ -13,7 +13,7 @@ use Rattle.urb_sqlite.specs.RecordRows.{row_of, StandsFor}
 use Rattle.urb_sqlite.specs.RowReadings.{records_of}
 use Rattle.urb_sqlite.specs.OpenJournal.{IsJournal, database_of, IsHonestJournal, LeavesOnly}
 use Rattle.urb_sqlite.specs.internal.JournalStatements.{insert_text}
-use Rattle.urb_sqlite.specs.internal.JournalChanges.{IsCounted, IsKept, IsInStep, IsLeft}
+use Rattle.urb_sqlite.specs.internal.JournalChanges.{IsAppended, IsCounted, IsKept, IsInStep, IsLeft}
 use Rattle.urb_sqlite.specs.internal.TransactionChanges.{HasMore, IsFilling, IsFilled, IsUndone, FillsTo}
 use Rattle.urb_sqlite.specs.internal.TransactionChanges.{AreAdded}
 use Rattle.urb_sqlite.proofs.KeptRecords.{IsSame, IsSettled, adds_record, earlier_clean, journal_of}
@@ -178,3 +178,20 @@ stops_at_inserts old new place rs step settled live survives honest clean db lef
           journal_of d.schema d.trees has (sound live honest.is_open),
           subst (λ (xs : List Entry). StandsFor d xs) it.0 it.1.stands,
         )
+
+-- ---- one record alone, and no call at all
+
+-- one record that an INSERT added is all of a list of one
+pub alone_added : (old new : State) (place : ℕ) (r : Entry) → IsAppended old new place r
+    → AreAdded old new place (r ∷ [])
+alone_added old new place r h =
+    record { kept = h.kept; honest = h.honest; alive = h.alive; records = h.records }
+
+-- without a call, no row changes
+pub left_still : (s : State) (place : ℕ) → IsInStep s place → IsLeft s s place
+left_still s place step = record {
+  kept = step;
+  honest = λ h. h;
+  alive = λ h _ _. h;
+  records = λ _. refl;
+}

@@ -1,9 +1,7 @@
 -- A list that gains one element, and a list with at most one more.
 use Rattle.std.proofs.Common.{◌≡◌, ℕ, zero, suc, ◌+◌, ◌≤◌, ◌⊎◌, inr, List, [], ◌∷◌, ◌++◌, length}
 use Rattle.std.proofs.Common.{take, Option, None, Some, refl, ap, arith, add-one, slice_index_or, sym}
-use Rattle.std.proofs.Common.{◌<◌, ◌∙◌, length-append}
-use Rattle.std.proofs.lemmas.List.{take_all}
-use Rattle.std.proofs.lemmas.Option.{slice_get_past}
+use Rattle.std.proofs.Common.{◌<◌, ◌∙◌}
 use Rattle.std.proofs.Math.Seq.{take-suc}
 use Rattle.std.specs.Prelude.{slice_get}
 use Rattle.urb_stable.specs.Entries.{Entry}
@@ -110,39 +108,3 @@ whole xs n le ge =
     let e = end xs in
     let o = one_behind xs n le ge in
     record { all = e.0; nothing = e.1; contents = o.0; whole = o.1 }
-
--- what is read from ys, which is xs followed by rs
-pub record KeptAll {X : Type 0} (xs rs : List X) (n : ℕ) (ys : List X) : Type 0 where
-  -- the first n elements of xs are all of it
-  pub before : take n xs ≡ xs
-  -- xs has no element at place n
-  pub nothing : slice_get xs n ≡ None
-  -- the first elements of ys are those of xs, then rs
-  pub all : take (n + length rs) ys ≡ take n xs ++ rs
-  -- ys has no element after them
-  pub past : slice_get ys (n + length rs) ≡ None
-
-kept_to_end : {X : Type 0} (xs rs : List X) → KeptAll xs rs (length xs) (xs ++ rs)
-kept_to_end xs rs =
-    let size = length-append xs rs in
-    let whole = take_all (length xs) xs (omega arith) in
-    record {
-      before = whole;
-      nothing = slice_get_past xs (length xs) (omega arith);
-      all =
-          take_all (length xs + length rs) (xs ++ rs) (omega (arith, size))
-          ∙ ap (λ front. front ++ rs) (sym whole);
-      past = slice_get_past (xs ++ rs) (length xs + length rs) (omega (arith, size));
-    }
-
--- what is read from a list with more elements is the list, and those elements after it
-pub kept-all : {X : Type 0} (xs rs : List X) (n : ℕ) (ys : List X) → n ≡ length xs
-    → ys ≡ xs ++ rs → KeptAll xs rs n ys
-kept-all xs rs n ys e f = rw (e, f) (kept_to_end xs rs)
-
--- after the records were kept, a stop leaves what was there, or that and all of them
-pub all_stop : (xs rs : List Entry) (n : ℕ) (ys : List Entry) → KeptAll xs rs n ys
-    → (records : List Entry)
-    → IsContents (take (n + length rs) ys) (slice_get ys (n + length rs)) records
-    → IsContents (take n xs) (slice_get xs n) records ⊎ (records ≡ take n xs ++ rs)
-all_stop xs rs n ys k records h = inr (rw (k.past, k.all) at h)

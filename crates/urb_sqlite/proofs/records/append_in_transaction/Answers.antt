@@ -1,6 +1,7 @@
-use Rattle.std.proofs.Common.{◌+◌, length}
+use Rattle.std.proofs.Common.{◌+◌, inl, length}
 use Rattle.urb_sqlite.proofs.KeptRecords.{stops_now}
-use Rattle.urb_sqlite.proofs.TransactionRecords.{added_all, left_undone, stops_at_inserts}
+use Rattle.urb_sqlite.proofs.TransactionRecords.{added_all, left_still, left_undone}
+use Rattle.urb_sqlite.proofs.TransactionRecords.{stops_at_inserts}
 use Rattle.sqlite.specs.Held.{state}
 use Rattle.urb_sqlite.proofs.records.append_in_transaction.Goals as goal
 
@@ -52,3 +53,22 @@ returns-in-Err-clause-rest g c step =
     stops_now new c.args.place kept.kept
     (λ is_open db. g.met.S.Store.settled c.insert_all-inserted.new.conn.store db is_open)
     c.schema-after.ensures.live
+
+-- a transaction is open: nothing is called
+pub returns-then-is_inside-clause-err : goal.returns-then-is_inside-clause-err
+returns-then-is_inside-clause-err g c step =
+    left_still (state g.S.Store c.args.conn.now) c.args.place step
+
+pub returns-then-is_inside-clause-stop : goal.returns-then-is_inside-clause-stop
+returns-then-is_inside-clause-stop g c step honest clean db left =
+    let it =
+    stops_now (state g.S.Store c.args.conn.now) c.args.place step
+    (λ is_open db. g.met.S.Store.settled c.args.conn.now.store db is_open)
+    c.schema-before.ensures.live honest db left in
+    (it.0, it.1, it.2, inl it.3)
+
+pub returns-then-is_inside-clause-rest : goal.returns-then-is_inside-clause-rest
+returns-then-is_inside-clause-rest g c step =
+    stops_now (state g.S.Store c.args.conn.now) c.args.place step
+    (λ is_open db. g.met.S.Store.settled c.args.conn.now.store db is_open)
+    c.schema-before.ensures.live
