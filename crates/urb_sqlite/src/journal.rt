@@ -202,20 +202,21 @@ impl<S: Alter> Stable for SqlStable<S> {
     }
 
     fn store_all(&mut self, pos: u32, entries: &[Record]) -> Result<(), StoreFault> {
+        let count = entries.len();
         let room = (u32::MAX - self.next) as usize;
-        if self.doubtful || pos != self.next || room < entries.len() {
+        if self.doubtful || pos != self.next || room < count {
             // Called for its clause that the database obeys its schema.
             let _schema = self.conn.schema();
             return Err(StoreFault::Place(self.next));
         }
-        if entries.is_empty() {
+        if count == 0 {
             // For the same clause.
-            let _schema = self.conn.schema();
+            let _same = self.conn.schema();
             return Ok(());
         }
         match records::append_many(&mut self.conn, &mut self.failures, pos, entries) {
             Ok(()) => {
-                self.next += entries.len() as u32;
+                self.next += count as u32;
                 Ok(())
             }
             Err(fault) => {

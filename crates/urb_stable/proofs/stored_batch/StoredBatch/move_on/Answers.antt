@@ -1,5 +1,5 @@
-use Rattle.std.proofs.Common.{ap, ◌+◌, ◌∙◌, ◌≡◌}
-use Rattle.urb_stable.specs.StoredBatches.{Unclaimed, once_claimed}
+use Rattle.std.proofs.Common.{ap, ◌+◌, ◌∙◌}
+use Rattle.urb_stable.specs.StoredBatches.{once_claimed}
 use Rattle.urb_stable.proofs.ClaimedRecords.{rest-claimed}
 use Rattle.urb_stable.proofs.stored_batch.StoredBatch.move_on.Goals as goal
 
