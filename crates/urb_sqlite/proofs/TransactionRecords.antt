@@ -22,6 +22,7 @@ use Rattle.urb_sqlite.proofs.KeptRecords.{writes_in_any}
 
 -- ---- inside the transaction
 
+-- one more row inside the transaction
 pub filling_more : (old mid new : State) (place : ℕ) (rs : List Entry) (r : Entry) (count : ℕ)
     → IsFilling old mid place rs → place + length rs < 4294967295 → IsEntry r
     → ExecutesInside 0 insert_text (row_of (place + length rs) r) mid new (Ok count)
@@ -48,6 +49,7 @@ filling_more old mid new place rs r count h low valid ran =
       sound = λ _ _. own.sound;
     }
 
+-- the same for the next record of a list
 pub filling_on : (old mid new : State) (place at : ℕ) (entries : List Entry) (i : ℕ) (r : Entry)
     (count : ℕ) → IsFilling old mid place (take i entries) → at ≡ place + i → i < length entries
     → place + length entries ≤ 4294967295 → IsEntry r
@@ -71,7 +73,7 @@ filled_survives old last new place rs one two h =
     (λ clean db is. let it = h (omega (arith, clean, two.clean)) in
     (last.now, it.more, it.sound, is)) one two
 
--- it was committed
+-- a transaction with these records was committed
 pub filled : (old last new : State) (place : ℕ) (rs : List Entry) → IsFilling old last place rs
     → Shows last new last.now last.now false → IsFilled old new place rs
 filled old last new place rs h end = record {
@@ -87,6 +89,7 @@ filled old last new place rs h end = record {
 has_then : (old new : Database) → new.schema ≡ old.schema → HasBoth new.schema → HasBoth old.schema
 has_then old new same has = same_first (sym same) has
 
+-- records that one transaction committed are added to the journal
 pub added_all : (old new : State) (place : ℕ) (rs : List Entry) → IsInStep old place
     → doubt old.is_clean ≤ doubt new.is_clean → (HasCleanDisk new → IsFilled old new place rs)
     → AreAdded old new place rs
@@ -124,6 +127,7 @@ same_undone old new settled h = record {
   autocommit = λ _. h.autocommit;
 }
 
+-- if the transaction was rolled back, no row changes
 pub left_undone : (old new : State) (place : ℕ) → IsInStep old place
     → doubt old.is_clean ≤ doubt new.is_clean → (HasCleanDisk new → IsUndone old new)
     → IsLeft old new place
