@@ -1,6 +1,7 @@
 -- Records that one transaction adds to a journal.
 use Rattle.std.proofs.Common.{◌≡◌, ◌⊎◌, inl, inr, ℕ, ◌+◌, ◌<◌, ◌≤◌, false, List, [], ◌∷◌, ◌++◌}
-use Rattle.std.proofs.Common.{length, length-append, append_assoc, Ok, IsTrue, take, length-take-le}
+use Rattle.std.proofs.Common.{length, length-append, append_assoc, Ok, Err, Result, OnOk, IsTrue}
+use Rattle.std.proofs.Common.{slice_index_or, take, length-take-le}
 use Rattle.std.proofs.Common.{refl, sym, ap, subst, ◌∙◌, arith}
 use Rattle.sqlite.specs.Tree.{Trees}
 use Rattle.sqlite.specs.View.{doubt}
@@ -199,3 +200,15 @@ left_still s place step = record {
   alive = λ h _ _. h;
   records = λ _. refl;
 }
+
+-- a list with one element is this element alone
+pub one-alone : {X : Type 0} (xs : List X) (x : X) → 0 < length xs → length xs < 2
+    → x ≡ slice_index_or xs 0 x → xs ≡ x ∷ []
+one-alone [] x some few is = absurd (omega arith)
+one-alone (y ∷ []) x some few is = ap (λ z. z ∷ []) (sym is)
+one-alone (y ∷ z ∷ ys) x some few is = absurd (omega (arith, few))
+
+-- what holds after Ok, and what follows from it
+pub ok-then : {T E P Q : Type 0} (result : Result T E) → (P → Q) → OnOk result P → OnOk result Q
+ok-then (Ok value) f h = f h
+ok-then (Err e) f h = tt

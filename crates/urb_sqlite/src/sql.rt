@@ -144,7 +144,10 @@ fn insert_row_inside<S: Alter>(
     let (pos, kind, sender) = (columns.pos, columns.kind, columns.sender);
     let (seq, client, number) = (columns.seq, columns.client, columns.number);
     let text = "INSERT INTO journal2 VALUES (?1, ?2, ?3, ?4, ?5, ?6, ?7)";
-    tx.execute(text, params![pos, kind, sender, seq, client, number, payload])
+    tx.execute(
+        text,
+        params![pos, kind, sender, seq, client, number, payload],
+    )
 }
 
 // Adds the record's row, inside a transaction.

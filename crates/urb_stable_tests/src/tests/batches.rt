@@ -50,8 +50,9 @@ fn claim<A: Allocator + Copy>(
     match draft.claim(batch) {
         Ok(receipt) => is_received(receipt, (node, pos), record).then_some(true),
         Err(draft) => {
-            let is_back =
-                draft.node() == node && draft.pos() == pos && draft.entry().is_same(record);
+            let is_back = draft.node() == node
+                && draft.pos() == pos
+                && draft.entry().is_same(record);
             drop(draft);
             is_back.then_some(false)
         }

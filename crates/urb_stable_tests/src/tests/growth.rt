@@ -89,7 +89,12 @@ fn are_late<A: Allocator + Copy>(heap: A, calm: A, record: &Record<Message<A>>) 
         Some(Ok(())) => Some(false),
         _ => None,
     };
-    let are_kept = is_answered(&mut store, calm, record, &[Call::Next(4), Call::Retrieve(3)]);
+    let are_kept = is_answered(
+        &mut store,
+        calm,
+        record,
+        &[Call::Next(4), Call::Retrieve(3)],
+    );
     drop(store);
     if are_kept { is_refused } else { None }
 }

@@ -52,10 +52,9 @@ returns-in-Err-clause-stop g c =
 pub invariant_of-self : goal.invariant_of-self
 invariant_of-self g c =
     let new = state g.S.Store c.append_many.new.conn in
-    subst (λ k. IsInStep new (c.self.inside.next + k)) (sym c.len-count.ensures)
-    (subst (λ n. IsInStep new (n + length c.args.entries.now)) c.if-pos-self.false
+    subst (λ n. IsInStep new (n + length c.args.entries.now)) c.if-pos-self.false
     (c.in-Ok.ensures.ok (subst (IsInStep (state g.S.Store c.self.inside.conn))
-    (sym c.if-pos-self.false) c.self.invariant)).kept)
+    (sym c.if-pos-self.false) c.self.invariant)).kept
 
 pub returns-in-Ok-clause-rest : goal.returns-in-Ok-clause-rest
 returns-in-Ok-clause-rest g c =
@@ -81,8 +80,8 @@ returns-in-Err-clause-trust g c =
     }
 
 -- an empty list: nothing is called
-pub returns-then-count-clause-stop : goal.returns-then-count-clause-stop
-returns-then-count-clause-stop g c =
+pub returns-then-count-eq0-clause-stop : goal.returns-then-count-eq0-clause-stop
+returns-then-count-eq0-clause-stop g c =
     subst (λ (s : OpenJournal _). IsHonestJournal (state g.S.Store s.conn)
     → HasCleanDisk (state g.S.Store s.conn)
     → LeavesOnly (state g.S.Store s.conn)
@@ -96,8 +95,8 @@ returns-then-count-clause-stop g c =
     c.schema-same.ensures.live honest db left in
     (it.0, it.1, it.2, inl it.3))
 
-pub returns-then-count-clause-rest : goal.returns-then-count-clause-rest
-returns-then-count-clause-rest g c =
+pub returns-then-count-eq0-clause-rest : goal.returns-then-count-eq0-clause-rest
+returns-then-count-eq0-clause-rest g c =
     subst (λ (s : OpenJournal _). IsSafeAtRest (state g.S.Store s.conn)) c.self.view_is
     (stops_now (state g.S.Store c.self.inside.conn) c.self.inside.next c.self.invariant
     (λ is_open db. g.met.S.Store.settled c.self.inside.conn.store db is_open)
