@@ -277,6 +277,7 @@ commits_record old place r db has h low valid commits =
 abbrev pub IsSettled : State → Type 0
 IsSettled s = (db : Trees) → s.may_leave db → db ≡ s.committed.trees
 
+-- If the last commit is all that a stop leaves, it is a journal of the records that are shown.
 pub last_commit : (s : State) (next : ℕ) (db : Trees) → IsSettled s → IsLive s → IsHonestJournal s
     → IsKept s next → s.may_leave db → IsJournalOf db (records_of s.now)
 last_commit s next db settled live honest kept left =

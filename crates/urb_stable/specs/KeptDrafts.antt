@@ -6,7 +6,7 @@ use Rattle.urb_stable.specs.PlacedRecords.{Placed}
 use Rattle.urb_stable.specs.StableStorage.{CountsFailures, IsAppended, IsContents, IsContentsOr, IsPlaced}
 use Rattle.urb_stable.specs.StableStorage.{KeepsTrust, LeavesDoubt, is_out_of_place}
 use Rattle.urb_stable.specs.StoredTogether.{AreAppended, IsContentsOrAll, LeavesNoRecord, MovesPlace}
-use Rattle.urb_stable.specs.StoredTogether.{are_out_of_place}
+use Rattle.urb_stable.specs.StoredTogether.{is_misplaced}
 use Rattle.urb_stable.specs.declared.stable.Stable.{Ghosts}
 use Rattle.urb_stable.specs.declared.stable.StoreFault.{StoreFault}
 
@@ -44,13 +44,13 @@ module _ {S A : Type 0} (g : Ghosts S A) where
   pub record KeepsAll (before : S) (pos : ℕ) (entries : List Entry)
       (answer : Result (Unit {0}) StoreFault) (after : S) : Type 0 where
     pub placed : IsPlaced
-        (are_out_of_place (g.is_doubtful before) (g.place before) pos (length entries))
+        (is_misplaced (g.is_doubtful before) (g.place before) pos entries)
         (g.place before) answer
     pub same : IsTrue
-        (are_out_of_place (g.is_doubtful before) (g.place before) pos (length entries))
+        (is_misplaced (g.is_doubtful before) (g.place before) pos entries)
         → after ≡ before
     pub nothing : entries ≡ []
-        → are_out_of_place (g.is_doubtful before) (g.place before) pos 0 ≡ false
+        → is_misplaced (g.is_doubtful before) (g.place before) pos [] ≡ false
         → (answer ≡ Ok tt) × (after ≡ before)
     pub counted : g.is_honest before → g.place before ≡ length (g.certain before) + 1
     pub appended : g.is_honest after

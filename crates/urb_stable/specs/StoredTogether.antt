@@ -1,16 +1,16 @@
 -- Records that a store keeps together: all of them or none.
 use Rattle.std.specs.Prelude.{◌≡◌, ◌⊎◌, ℕ, ◌==◌, ◌||◌, ◌+◌, ◌++◌, Bool, true, false, not, nat_lt}
-use Rattle.std.specs.Prelude.{List, Option, None, Result, IfErr, OnOk, OnErr}
+use Rattle.std.specs.Prelude.{List, length, Option, None, Result, IfErr, OnOk, OnErr}
 use Rattle.urb_stable.specs.Entries.{Entry}
 use Rattle.urb_stable.specs.StableStorage.{IsContents, is_place}
 use Rattle.urb_stable.specs.declared.stable.StoreFault.{StoreFault}
 
--- Whether this many records, the first at this position, are out of place: there is a doubtful
--- record, or the position isn't the next one. Or the list would get longer than its greatest
--- length, 4,294,967,294 records.
-abbrev pub are_out_of_place : Bool → ℕ → ℕ → ℕ → Bool
-are_out_of_place doubtful next pos count =
-    doubtful || (not (pos == next) || nat_lt 4294967295 (next + count))
+-- Whether these records, the first at this position, are out of place: there is a doubtful record,
+-- or the position isn't the next one. Or the list would get longer than its greatest length,
+-- 4,294,967,294 records.
+abbrev pub is_misplaced : Bool → ℕ → ℕ → List Entry → Bool
+is_misplaced doubtful next pos entries =
+    doubtful || (not (pos == next) || nat_lt 4294967295 (next + length entries))
 
 -- What storing records together does to the certain ones (`old` before it, `new` after it). After
 -- Ok these records follow them, in order. After a fault they are as before.

@@ -7,7 +7,7 @@ ghost use Rattle.urb_stable.specs.Entries.{Entry};
 ghost use Rattle.urb_stable.specs.StableStorage.{IsContents, IsContentsOr, is_out_of_place, is_place};
 ghost use Rattle.urb_stable.specs.StableStorage.{is_bad_row, IsPlaced, IsAppended, LeavesDoubt};
 ghost use Rattle.urb_stable.specs.StableStorage.{CountsFailures, list_in, IsRetrieved, SettlesDoubt};
-ghost use Rattle.urb_stable.specs.StoredTogether.{are_out_of_place, AreAppended, LeavesNoRecord};
+ghost use Rattle.urb_stable.specs.StoredTogether.{is_misplaced, AreAppended, LeavesNoRecord};
 ghost use Rattle.urb_stable.specs.StoredTogether.{MovesPlace, IsContentsOrAll};
 
 use crate::{Record, Stable, StoreFault};
@@ -208,15 +208,13 @@ impl<A: Allocator + Copy> Stable for MemStable<A> {
     fn store_all(&mut self, pos: u32, entries: &[Record<Message<A>>]) -> Result<(), StoreFault>
         // The promises of every store.
         ensures placed { IsPlaced
-            (are_out_of_place self.old.doubtful (length self.old.certain + 1) pos
-            (length entries.now))
+            (is_misplaced self.old.doubtful (length self.old.certain + 1) pos entries.now)
             (length self.old.certain + 1) result }
         ensures same { IsTrue
-            (are_out_of_place self.old.doubtful (length self.old.certain + 1) pos
-            (length entries.now))
+            (is_misplaced self.old.doubtful (length self.old.certain + 1) pos entries.now)
             → self.new ≡ self.old }
         ensures nothing { entries.now ≡ []
-            → are_out_of_place self.old.doubtful (length self.old.certain + 1) pos 0 ≡ false
+            → is_misplaced self.old.doubtful (length self.old.certain + 1) pos [] ≡ false
             → (result ≡ Ok tt) × (self.new ≡ self.old) }
         ensures appended { AreAppended self.old.certain self.new.certain entries.now result }
         ensures doubted { LeavesNoRecord self.new.doubtful self.new.doubt result }
@@ -228,7 +226,7 @@ impl<A: Allocator + Copy> Stable for MemStable<A> {
         ensures counts { CountsFailures self.old.failures self.new.failures result }
 
         // The exact result and effect if the records are in place (the result isn't `Place`).
-        ensures exact { are_out_of_place self.old.doubtful (length self.old.certain + 1) pos
+        ensures exact { is_misplaced self.old.doubtful (length self.old.certain + 1) pos
             (length entries.now) ≡ false
             → StoresAllInMemory self.old entries.now result self.new }
     {

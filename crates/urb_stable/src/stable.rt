@@ -7,7 +7,7 @@ ghost use Rattle.urb_stable.specs.StableStorage.{refusal_of, is_out_of_place, Is
 ghost use Rattle.urb_stable.specs.StableStorage.{IsPlaced, IsAppended, LeavesDoubt, CountsFailures};
 ghost use Rattle.urb_stable.specs.StableStorage.{KeepsTrust, list_in, IsRetrieved, SettlesDoubt};
 ghost use Rattle.urb_stable.specs.StableStorage.{IsAllowedFault, StaysShut, LeavesNoMore};
-ghost use Rattle.urb_stable.specs.StoredTogether.{are_out_of_place, AreAppended, LeavesNoRecord};
+ghost use Rattle.urb_stable.specs.StoredTogether.{is_misplaced, AreAppended, LeavesNoRecord};
 ghost use Rattle.urb_stable.specs.StoredTogether.{MovesPlace, IsContentsOrAll};
 
 use crate::Record;
@@ -170,14 +170,13 @@ pub trait Stable {
     ) -> Result<(), StoreFault>
         // The fault is `Place` exactly if the records are out of place, and then nothing changes.
         ensures placed { IsPlaced
-            (are_out_of_place (is_doubtful self.old) (place self.old) pos (length entries.now))
+            (is_misplaced (is_doubtful self.old) (place self.old) pos entries.now)
             (place self.old) result }
-        ensures same { IsTrue
-            (are_out_of_place (is_doubtful self.old) (place self.old) pos (length entries.now))
+        ensures same { IsTrue (is_misplaced (is_doubtful self.old) (place self.old) pos entries.now)
             → self.new ≡ self.old }
         // An empty list in place is stored by doing nothing.
         ensures nothing { entries.now ≡ []
-            → are_out_of_place (is_doubtful self.old) (place self.old) pos 0 ≡ false
+            → is_misplaced (is_doubtful self.old) (place self.old) pos [] ≡ false
             → (result ≡ Ok tt) × (self.new ≡ self.old) }
         // All records are certain after `Ok`, and none after a fault.
         ensures appended { is_honest self.new

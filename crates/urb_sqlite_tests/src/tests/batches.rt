@@ -9,6 +9,7 @@ use sqlite::Files;
 use sqlite_disk::{Fuse, Memory};
 use std::alloc::Global;
 use std::test::Fail;
+use urb_names::MAX_PAYLOAD;
 use urb_stable::StoreFault;
 
 /// A record, and three that are stored together after it.
@@ -22,9 +23,9 @@ const FOUR: [Kept; 4] = [
 /// The same with payloads of the greatest length.
 const LONG_FOUR: [Kept; 4] = [
     (Form::Pending, 1, Load::Of(b"hi")),
-    (Form::Certified, 2, Load::Long(16384)),
+    (Form::Certified, 2, Load::Long(MAX_PAYLOAD)),
     (Form::Certificate, 1, Load::Of(b"")),
-    (Form::Pending, 3, Load::Long(16384)),
+    (Form::Pending, 3, Load::Long(MAX_PAYLOAD)),
 ];
 
 /// The last three of the records.
