@@ -227,7 +227,7 @@ impl<A: Allocator + Copy> Stable for MemStable<A> {
 
         // The exact result and effect if the records are in place (the result isn't `Place`).
         ensures exact { is_misplaced self.old.doubtful (length self.old.certain + 1) pos
-            (length entries.now) ≡ false
+            entries.now ≡ false
             → StoresAllInMemory self.old entries.now result self.new }
     {
         let next = self.next();
