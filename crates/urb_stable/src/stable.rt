@@ -160,9 +160,9 @@ pub trait Stable {
 
     /// Appends all these records to the others, the first at this position, or none of them. After
     /// `Place` nothing has changed: the position isn't the next one, a `retrieve` must come first,
-    /// or the list would get longer than its greatest length. After any other fault none of them is
-    /// kept, and a `retrieve` must come before the next store. An empty list at the next position
-    /// changes nothing.
+    /// or the list would get longer than its greatest length. After any other fault a `retrieve`
+    /// must come first. It finds none of them. But if the failure has shut the storage, only a later
+    /// opening can tell: it finds none or all. An empty list at the next position changes nothing.
     fn store_all(
         &mut self,
         pos: u32,

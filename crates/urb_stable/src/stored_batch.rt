@@ -66,8 +66,9 @@ impl<A: Allocator> StoredBatch<A> {
 }
 
 /// Stores these records of a node together, the first at this position, before the node drafts
-/// them. A doubt with `Place` means that nothing has changed. After any other doubt the store has
-/// kept none of them, and it needs a `retrieve`.
+/// them. A doubt with `Place` means that nothing has changed. After any other doubt the store needs
+/// a `retrieve`, which finds none of them. If the failure has shut the store, a later opening finds
+/// none or all.
 pub fn store_ahead<S: Stable>(
     node: NodeId,
     pos: u32,
