@@ -1,4 +1,4 @@
-use Rattle.std.proofs.Common.{arith, [], ◌∷◌, ◌++◌, ◌≡◌, ◌⊎◌, subst, sym}
+use Rattle.std.proofs.Common.{arith, ◌++◌, ◌≡◌, ◌⊎◌, subst, sym}
 use Rattle.sqlite.specs.Held.{state}
 use Rattle.urb_sqlite.specs.OpenJournal.{LeavesOnly}
 use Rattle.urb_sqlite.specs.RowReadings.{records_of}

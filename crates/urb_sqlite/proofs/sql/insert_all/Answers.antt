@@ -1,4 +1,4 @@
-use Rattle.std.proofs.Common.{◌≡◌, ◌+◌, arith, rules, sym, subst, take_all, ◌∙◌}
+use Rattle.std.proofs.Common.{◌≡◌, arith, rules, sym, subst, take_all, ◌∙◌}
 use Rattle.sqlite.specs.State.{HasCleanDisk, Survives}
 use Rattle.sqlite.specs.Held.{state}
 use Rattle.urb_stable.proofs.AppendedElements.{take-next}
