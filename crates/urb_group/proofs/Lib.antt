@@ -20,3 +20,4 @@ pub mod moves
 pub mod calls
 mod rounds
 pub mod stops
+mod tails

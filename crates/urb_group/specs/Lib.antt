@@ -6,6 +6,7 @@ pub mod PromptAnswers
 pub mod RunMoments
 pub mod Acceptance
 pub mod ProcessStops
+pub mod StoresAhead
 pub mod StartLimits
 pub mod RecoveryPlans
 pub mod RecoveredWorlds

@@ -43,6 +43,8 @@ mod shared_payloads;
 pub mod starts;
 mod state;
 mod stores;
+mod tail_records;
+mod tail_rules;
 mod taken;
 pub mod worked;
 

@@ -28,5 +28,6 @@ pub mod shown;
 pub mod starts;
 pub mod stops;
 pub mod survivals;
+pub mod tails;
 pub mod telling;
 pub mod ticks;
