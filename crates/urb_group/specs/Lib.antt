@@ -6,7 +6,6 @@ pub mod PromptAnswers
 pub mod RunMoments
 pub mod Acceptance
 pub mod ProcessStops
-pub mod StoresAhead
 pub mod StartLimits
 pub mod RecoveryPlans
 pub mod RecoveredWorlds
@@ -23,6 +22,7 @@ pub mod PlayedCommands
 pub mod Scenes
 pub mod StoreContents
 pub mod InPlaceDrafts
+pub mod StoresAhead
 pub mod MemoryStores
 pub mod StoreOpenings
 pub mod DeliveredMessages

@@ -11,6 +11,7 @@ use Rattle.urb_node.specs.NodeViews.{ShowsNode}
 use Rattle.urb_stable.proofs.KeptRules.{Grows}
 use Rattle.urb_stable.specs.Entries.{Entry}
 
+-- a stop of all nodes is survived, though each node is looked at in a world of its own
 pub all-survive-ahead : (group : GroupView) (images : ℕ → List Entry) → IsSound group
     → ((p : ℕ) → (w : World) × Shows group w × MayLeaveAhead w p (images p))
     → (w : World) × Shows group w × GoesOnIn w images

@@ -25,8 +25,9 @@ use Rattle.urb_stable.specs.Entries.{Entry}
 use Rattle.urb_stable.specs.Fitting.{Kept}
 use Rattle.urb_stable.specs.Records.{pend}
 
--- ---- an image that is ahead begins with the records
+-- ---- an image that is ahead
 
+-- an image that is ahead begins with the records
 pub ahead-begins : (records tail image : List Entry) → IsAhead records tail image
     → Begins records image
 ahead-begins records [] image h = ([], append-nil records ∙ sym h)
@@ -96,6 +97,7 @@ module _ (w : World) (images : ℕ → List Entry) (begins : (q : ℕ) → Begin
       may.0))
       may.1 h
 
+-- whatever a stop leaves of stores that are ahead opens a group that goes on from the world
 pub survives-ahead : (w : World) → IsKept w → SurvivesAhead w
 survives-ahead w kept images left =
     record {
@@ -126,7 +128,7 @@ survives-ahead w kept images left =
 
 -- ---- a tail stays one
 
--- .. while other nodes store more
+-- a tail stays one while other nodes store more
 pub follow-grows : (size : Limits) (old new : ℕ → List Entry) (p : ℕ) (records tail : List Entry)
     → Grows old new → MayFollow size old p records tail → MayFollow size new p records tail
 follow-grows size old new p records [] g h = tt
@@ -143,9 +145,3 @@ follow-grows size old new p records (r ∷ tail) g h = (
             → has_pair (pend (cond e rs (new q))) x m ≡ true
         at true h = h
         at false h = g q x m h
-
--- .. and once its first record is counted as stored, the others are one
-pub follow-next : (size : Limits) (images : ℕ → List Entry) (p : ℕ) (records : List Entry) (r : Entry)
-    (tail : List Entry) → MayFollow size images p records (r ∷ tail)
-    → MayFollow size images p (records ++ r ∷ []) tail
-follow-next size images p records r tail h = h.1

@@ -124,12 +124,14 @@ IsSought place client left =
     → (left ≤ length n.broadcast) × (of_client client (drop left n.broadcast) ≡ 0)
 
 module _ {A : Type 0} (place : Place A) (p client own : ℕ) where
+  -- before the walk no message is left out
   pub sought-first : CountsOwn (ShowsAt place) own → IsSought place client (own - 0)
   sought-first counts n s =
       let same : own ≡ length n.broadcast = counts n s in
       (omega (arith, same),
       ap (of_client client) (drop_all (own - 0) n.broadcast (omega (arith, same))))
 
+  -- past the first message the client has none
   pub sought-none : (back : ℕ) → own ≤ back → IsSought place client (own - back)
       → CountsClient place client 0
   sought-none back past h n s =
@@ -159,6 +161,7 @@ module _ {A : Type 0} (place : Place A) (p client own : ℕ) where
     none_behind n s =
         ap (λ (k : ℕ). of_client client (drop k n.broadcast)) (sym left_is) ∙ (h n s).1
 
+    -- there is a message of each number
     pub sought-missing : FindsMessage (ShowsAt place) (name p (own - back)) None
         → IsSought place client (own - (back + 1))
     sought-missing finds n s =
@@ -167,6 +170,7 @@ module _ {A : Type 0} (place : Place A) (p client own : ℕ) where
         let some = get_some n.broadcast j within in
         let f : None ≡ Some some.0 = found None finds n s ∙ some.1 in cc
 
+    -- the walk goes on past another client's message
     pub sought-later : (m : Content)
         → FindsMessage (ShowsAt place) (name p (own - back)) (Some m)
         → (m.client == client) ≡ false → IsSought place client (own - (back + 1))
@@ -175,6 +179,7 @@ module _ {A : Type 0} (place : Place A) (p client own : ℕ) where
         other-counts n.broadcast client j m (sym (found (Some m) finds n s)) other
         (none_behind n s))
 
+    -- the walk ends with the client's last message
     pub sought-found : (m : Content)
         → FindsMessage (ShowsAt place) (name p (own - back)) (Some m)
         → (m.client == client) ≡ true → CountsClient place client m.number
