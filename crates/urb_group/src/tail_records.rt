@@ -3,11 +3,10 @@
 //! They are the beginning of a tail, so they are few, and each function reads them all.
 
 ghost use Rattle.std.specs.Prelude.{[], ◌∷◌, ◌≡◌, ◌≤◌, length, option_map};
-ghost use Rattle.std.specs.Option.{option_or};
 ghost use Rattle.urb_names.specs.Names.{has_name};
 ghost use Rattle.urb_names.specs.Pairs.{message_of, own};
 ghost use Rattle.urb_stable.specs.Records.{cert, pend};
-ghost use Rattle.urb_group.specs.internal.TailChecks.{of_client, own_of};
+ghost use Rattle.urb_group.specs.internal.TailChecks.{of_client};
 
 use std::alloc::Allocator;
 use urb_names::{ClientId, Message, Name, NodeId};
@@ -68,23 +67,32 @@ pub(crate) fn is_certified_among<A: Allocator>(
     false
 }
 
-// Returns the message of a record, if it holds a pair of this node's own.
-fn own_message<A: Allocator>(entry: &Record<Message<A>>, node: NodeId) -> Option<&Message<A>>
-    ensures { option_map (λ m. m.now) result ≡ own_of node entry.now }
+// Counts the pairs of the node's own that a record holds, and those whose message is this client's.
+fn count_one<A: Allocator>(
+    entry: &Record<Message<A>>,
+    node: NodeId,
+    client: ClientId,
+) -> (usize, usize)
+    ensures own { result.0 ≡ length (own node (pend (entry.now ∷ []))) }
+    ensures of_client { result.1 ≡ of_client client (own node (pend (entry.now ∷ []))) }
+    ensures most { (result.0 ≤ 1) × (result.1 ≤ 1) }
 {
     match entry {
         Record::Pend(name, message) | Record::PendCert(name, message) => {
             let name = *name;
-            if name.sender == node {
-                return Some(message);
+            if name.sender != node {
+                return (0, 0);
             }
-            None
+            if message.client() != client {
+                return (1, 0);
+            }
+            (1, 1)
         }
-        Record::Cert(_) => None,
+        Record::Cert(_) => (0, 0),
     }
 }
 
-/// Counts the messages of the node's own pairs in these records, and how many are this client's.
+/// Counts the pairs of the node's own in these records, and those whose message is this client's.
 pub(crate) fn count_own<A: Allocator>(
     records: &[Record<Message<A>>],
     node: NodeId,
@@ -96,12 +104,9 @@ pub(crate) fn count_own<A: Allocator>(
     let mut own = 0;
     let mut of_client = 0;
     for entry in records {
-        if let Some(message) = own_message(entry, node) {
-            own += 1;
-            if message.client() == client {
-                of_client += 1;
-            }
-        }
+        let (one, one_of_client) = count_one(entry, node, client);
+        own += one;
+        of_client += one_of_client;
     }
     (own, of_client)
 }

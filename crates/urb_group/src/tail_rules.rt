@@ -3,7 +3,8 @@
 //! A tail is a list of records that a store is to keep by one call, before the events that draft
 //! them. Each record is judged as if those before it were stored. `before` are those.
 
-ghost use Rattle.std.specs.Prelude.{◌<◌, ◌≡◌, ◌≤◌, length, option_map, suc};
+ghost use Rattle.std.specs.Prelude.{◌+◌, ◌<◌, ◌≡◌, option_map, suc};
+ghost use Rattle.std.specs.Bool.{MatchBool};
 ghost use Rattle.urb_stable.specs.Fitting.{in_range};
 ghost use Rattle.urb_node.specs.CallEffects.{Holds as HoldsAt};
 ghost use Rattle.urb_group.specs.PlaceViews.{memory_in};
@@ -11,7 +12,8 @@ ghost use Rattle.urb_group.specs.StoresAhead.{TellsTail};
 ghost use Rattle.urb_group.specs.internal.PlaceInvariant.{IsGroup, ShowsAt};
 ghost use Rattle.urb_group.specs.internal.TailChecks.{CountsClient, CountsHolders, FindsBehind};
 ghost use Rattle.urb_group.specs.internal.TailChecks.{IsNamedBehind, IsNextBehind, Joins, KeepsA};
-ghost use Rattle.urb_group.specs.internal.TailChecks.{KeepsB, KeepsC, KeepsD, SenderHolds, WouldPass};
+ghost use Rattle.urb_group.specs.internal.TailChecks.{KeepsB, KeepsC, KeepsD, SenderHolds, WouldHold};
+ghost use Rattle.urb_group.specs.internal.TailChecks.{WouldPass};
 
 use crate::Group;
 use crate::node_moves::{Node, place_of};
@@ -73,7 +75,10 @@ fn is_certified<A: Allocator + Copy>(
 ) -> bool
     ensures { IsNamedBehind current.now before.now name result }
 {
-    current.certified(name) || is_certified_among(before, name)
+    if current.certified(name) {
+        return true;
+    }
+    is_certified_among(before, name)
 }
 
 // Says whether a group with these limits may have the name.
@@ -92,16 +97,22 @@ fn is_new<A: Allocator + Copy>(
 ) -> bool
     ensures { KeepsA config current.now before.now entry.now result }
 {
-    match entry {
-        Record::Pend(name, _) | Record::PendCert(name, _) => {
-            is_in_range(config, *name) && find_message(current, before, *name).is_none()
-        }
-        Record::Cert(name) => {
-            is_in_range(config, *name)
-                && find_message(current, before, *name).is_some()
-                && !is_certified(current, before, *name)
-        }
+    let name = entry.name();
+    if !is_in_range(config, name) {
+        return false;
     }
+    let found = find_message(current, before, name);
+    match entry {
+        Record::Pend(_, _) | Record::PendCert(_, _) => found.is_none(),
+        Record::Cert(_) => found.is_some() && !is_certified(current, before, name),
+    }
+}
+
+// Says whether two numbers add up to a third one.
+fn add_up(first: u32, second: usize, sum: u32) -> bool
+    ensures { MatchBool result (first + second ≡ sum) (¬ (first + second ≡ sum)) }
+{
+    first <= sum && (sum - first) as usize == second
 }
 
 // Says whether a pair would be the node's next one, with its client's next number.
@@ -118,9 +129,10 @@ fn is_next<A: Allocator + Copy>(
     name.recall();
     message.recall();
     let (own, of_client) = count_own(before, node, message.client());
-    let own = current.own_len() as usize + own;
-    let of_client = count_client(current, node, message.client()) as usize + of_client;
-    own == (name.seq - 1) as usize && of_client == (message.number() - 1) as usize
+    if !add_up(current.own_len(), own, name.seq - 1) {
+        return false;
+    }
+    add_up(count_client(current, node, message.client()), of_client, message.number() - 1)
 }
 
 // Says whether a record keeps rule B: a pair of the node's own comes in its turn.
@@ -136,7 +148,10 @@ fn is_in_turn<A: Allocator + Copy>(
     match entry {
         Record::Pend(name, message) | Record::PendCert(name, message) => {
             let name = *name;
-            name.sender != node || is_next(current, node, before, name, message)
+            if name.sender != node {
+                return true;
+            }
+            is_next(current, node, before, name, message)
         }
         Record::Cert(_) => true,
     }
@@ -171,10 +186,32 @@ fn is_at_its_sender<A: Allocator + Copy>(
     match entry {
         Record::Pend(name, message) | Record::PendCert(name, message) => {
             let name = *name;
-            name.sender == node || sender_holds(config, nodes, name, message)
+            if name.sender == node {
+                return true;
+            }
+            sender_holds(config, nodes, name, message)
         }
         Record::Cert(_) => true,
     }
+}
+
+// Says whether the node in a place would hold a pair if the one in the place `at` did.
+fn would_hold<A: Allocator + Copy>(
+    config: Config,
+    nodes: &[Node<A>],
+    at: usize,
+    place: usize,
+    name: Name,
+    message: &Message<A>,
+) -> bool
+    requires group { IsGroup config nodes.now }
+    requires within { place < config.n }
+    ensures { WouldHold config nodes.now (suc at) place name message.now result }
+{
+    if place == at {
+        return true;
+    }
+    nodes[place].has(name, message)
 }
 
 // Counts the nodes that would hold a pair if the one in this place did.
@@ -191,7 +228,7 @@ fn count_holders<A: Allocator + Copy>(
     config.recall();
     let mut count = 0;
     for place in 0..usize::from(config.n()) {
-        if place == at || nodes[place].has(name, message) {
+        if would_hold(config, nodes, at, place, name, message) {
             count += 1;
         }
     }
@@ -249,10 +286,17 @@ fn may_join<A: Allocator + Copy>(
     requires place { node ≡ suc at }
     ensures { Joins config nodes.now node before.now entry.now result }
 {
-    is_new(config, &nodes[at], before, entry)
-        && is_in_turn(&nodes[at], node, before, entry)
-        && is_at_its_sender(config, nodes, node, entry)
-        && is_certified_rightly(config, nodes, at, before, entry)
+    let current = &nodes[at];
+    if !is_new(config, current, before, entry) {
+        return false;
+    }
+    if !is_in_turn(current, node, before, entry) {
+        return false;
+    }
+    if !is_at_its_sender(config, nodes, node, entry) {
+        return false;
+    }
+    is_certified_rightly(config, nodes, at, before, entry)
 }
 
 impl<A: Allocator + Copy> Group<A> {

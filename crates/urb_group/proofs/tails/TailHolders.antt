@@ -1,6 +1,6 @@
 -- Which nodes hold a pair, and how many would if one more did.
-use Rattle.std.proofs.Common.{Bool, List, Some, [], ap, arith, cond, count_by, false, length, map, refl}
-use Rattle.std.proofs.Common.{slice_get, slice_index_or, subst, suc, sym, true, zero, ℕ, ◌++◌, ◌+◌}
+use Rattle.std.proofs.Common.{Bool, List, Some, [], ap, arith, cond, count_by, eq-eqb, false, length, map}
+use Rattle.std.proofs.Common.{ne_eqb, refl, slice_index_or, subst, suc, sym, true, zero, ℕ, ◌++◌, ◌+◌}
 use Rattle.std.proofs.Common.{◌<◌, ◌==◌, ◌||◌, ◌∙◌, ◌∷◌, ◌≡◌, ◌≤◌}
 use Rattle.std.proofs.lemmas.List.{length-map}
 use Rattle.std.proofs.lemmas.List.Sums.{sum_by-append, sum_by-cons}
@@ -23,7 +23,7 @@ use Rattle.urb_group.specs.PlaceViews.{shown, view_at}
 use Rattle.urb_group.specs.World.{World, stored, updated}
 use Rattle.urb_group.specs.declared.node_moves.Node.{Node as Place}
 use Rattle.urb_group.specs.internal.PlaceInvariant.{IsGroup, ShowsAt}
-use Rattle.urb_group.specs.internal.TailChecks.{SenderHolds, would_hold}
+use Rattle.urb_group.specs.internal.TailChecks.{SenderHolds, WouldHold, would_hold}
 
 -- ---- one node
 
@@ -62,6 +62,22 @@ module _ {A : Type 0} {size : Limits} {places : List (Place A)} (group : IsGroup
   pub sender-missing : (x : Label) (m : Content) → size.n < x.sender
       → SenderHolds size places x m false
   sender-missing x m past w s = nothing w s x.sender past x m
+
+  -- the node in this place would hold the pair if it is the one that is to
+  pub would-itself : (at place : ℕ) (x : Label) (m : Content) → place ≡ at
+      → WouldHold size places (suc at) place x m true
+  would-itself at place x m e w s =
+      ap (λ b. b || has_pair (pend (stored w (suc place))) x m)
+      (sym (eq-eqb (suc place) (suc at) (ap suc e)))
+
+  -- or else if it holds the pair
+  pub would-other : (at place : ℕ) (x : Label) (m : Content) (node : Place A) (result : Bool)
+      → (place ≡ at → ⊥) → node ≡ slice_index_or places place node → place < size.n
+      → Holds (ShowsAt node) x m result → WouldHold size places (suc at) place x m result
+  would-other at place x m node result not is low holds w s =
+      holds (w.node (suc place)) (shows-read place node is low w s)
+      ∙ ap (λ b. b || has_pair (pend (stored w (suc place))) x m)
+      (sym (ne_eqb (suc place) (suc at) (λ e. not (omega (arith, e)))))
 
 -- ---- a count over the nodes
 

@@ -1,6 +1,6 @@
 -- What a list of records says, from its first record on, and behind other records.
 use Rattle.std.proofs.Common.{Bool, List, None, Option, Some, [], ap, arith, cond, count_by, drop}
-use Rattle.std.proofs.Common.{drop-cons, false, length, refl, slice_index_or, suc, sym, true, ℕ}
+use Rattle.std.proofs.Common.{drop-cons, false, length, length-append, refl, slice_index_or, suc, sym, true, ℕ}
 use Rattle.std.proofs.Common.{◌++◌, ◌+◌, ◌<◌, ◌==◌, ◌||◌, ◌∙◌, ◌∷◌, ◌≡◌, ◌≤◌}
 use Rattle.std.proofs.lemmas.List.{drop_all}
 use Rattle.std.proofs.lemmas.List.Folds.{list_any-append}
@@ -14,7 +14,7 @@ use Rattle.urb_stable.proofs.JoinedRecords.{cert-append, pend-append}
 use Rattle.urb_stable.specs.Entries.{Entry}
 use Rattle.urb_stable.specs.Records.{cert, pend}
 use Rattle.urb_stable.specs.declared.record.Record.TheVariants.{Cert, Pend, PendCert}
-use Rattle.urb_group.specs.internal.TailChecks.{of_client, own_of}
+use Rattle.urb_group.specs.internal.TailChecks.{of_client}
 
 -- ---- a walk over a list
 
@@ -134,44 +134,18 @@ named-behind rs ss x =
 
 -- ---- own messages
 
--- the messages, with this one first
-abbrev pub with_first : Option Content → List Content → List Content
-with_first None ms = ms
-with_first (Some m) ms = m ∷ ms
-
-own-first : (p : ℕ) (r : Entry) (rs : List Entry)
-    → own p (pend (r ∷ rs)) ≡ with_first (own_of p r) (own p (pend rs))
-own-first p (Pend x m) rs = at (x.sender == p)
-  where
-    at : (b : Bool) → cond b (m ∷ own p (pend rs)) (own p (pend rs))
-        ≡ with_first (cond b (Some m) None) (own p (pend rs))
-    at true = refl
-    at false = refl
-own-first p (PendCert x m) rs = at (x.sender == p)
-  where
-    at : (b : Bool) → cond b (m ∷ own p (pend rs)) (own p (pend rs))
-        ≡ with_first (cond b (Some m) None) (own p (pend rs))
-    at true = refl
-    at false = refl
-own-first p (Cert x) rs = refl
-
--- the own messages from a record on
-pub own-here : (p : ℕ) (rs : List Entry) (i : ℕ) (r : Entry) (o : Option Content) → i < length rs
-    → r ≡ slice_index_or rs i r → o ≡ own_of p r
-    → own p (pend (drop i rs)) ≡ with_first o (own p (pend (drop (i + 1) rs)))
-own-here p rs i r o l e f =
-    ap (λ (ss : List Entry). own p (pend ss)) (from-here rs i r l e)
-    ∙ (own-first p r (drop (i + 1) rs)
-    ∙ ap (λ q. with_first q (own p (pend (drop (i + 1) rs)))) (sym f))
-
--- past the last record there is none
-pub own-nowhere : (p : ℕ) (rs : List Entry) (i : ℕ) → length rs ≤ i → own p (pend (drop i rs)) ≡ []
-own-nowhere p rs i l = ap (λ (ss : List Entry). own p (pend ss)) (drop_all i rs l)
-
 -- the own messages of two lists of records
 pub own-behind : (p : ℕ) (rs ss : List Entry)
     → own p (pend (rs ++ ss)) ≡ own p (pend rs) ++ own p (pend ss)
 own-behind p rs ss = ap (own p) (pend-append rs ss) ∙ own-append p (pend rs) (pend ss)
+
+-- the own messages from a record on
+own-from : (p : ℕ) (rs : List Entry) (i : ℕ) (r : Entry) → i < length rs
+    → r ≡ slice_index_or rs i r
+    → own p (pend (drop i rs)) ≡ own p (pend (r ∷ [])) ++ own p (pend (drop (i + 1) rs))
+own-from p rs i r l e =
+    ap (λ (ss : List Entry). own p (pend ss)) (from-here rs i r l e)
+    ∙ own-behind p (r ∷ []) (drop (i + 1) rs)
 
 -- ---- counts
 
@@ -184,3 +158,38 @@ client-first client m ms = sum_by-cons (λ (o : Content). cond (o.client == clie
 pub client-append : (client : ℕ) (ms os : List Content)
     → of_client client (ms ++ os) ≡ of_client client ms + of_client client os
 client-append client ms os = sum_by-append (λ (o : Content). cond (o.client == client) 1 0) ms os
+
+-- the walk counts one record more
+pub own-counted : (p : ℕ) (rs : List Entry) (i : ℕ) (r : Entry) (count one all : ℕ)
+    → i < length rs → r ≡ slice_index_or rs i r → one ≡ length (own p (pend (r ∷ [])))
+    → count + length (own p (pend (drop i rs))) ≡ all
+    → (count + one) + length (own p (pend (drop (i + 1) rs))) ≡ all
+own-counted p rs i r count one all l e is h =
+    let parts = ap length (own-from p rs i r l e)
+    ∙ length-append (own p (pend (r ∷ []))) (own p (pend (drop (i + 1) rs))) in
+    omega (arith, parts, is, h)
+
+-- also of the messages of one client
+pub client-counted : (p client : ℕ) (rs : List Entry) (i : ℕ) (r : Entry) (count one all : ℕ)
+    → i < length rs → r ≡ slice_index_or rs i r
+    → one ≡ of_client client (own p (pend (r ∷ [])))
+    → count + of_client client (own p (pend (drop i rs))) ≡ all
+    → (count + one) + of_client client (own p (pend (drop (i + 1) rs))) ≡ all
+client-counted p client rs i r count one all l e is h =
+    let parts = ap (of_client client) (own-from p rs i r l e)
+    ∙ client-append client (own p (pend (r ∷ []))) (own p (pend (drop (i + 1) rs))) in
+    omega (arith, parts, is, h)
+
+-- past the last record all are counted
+pub own-all : (p : ℕ) (rs : List Entry) (i count all : ℕ) → length rs ≤ i
+    → count + length (own p (pend (drop i rs))) ≡ all → count ≡ all
+own-all p rs i count all l h =
+    let none = ap (λ (ss : List Entry). length (own p (pend ss))) (drop_all i rs l) in
+    omega (arith, none, h)
+
+-- also of the messages of one client
+pub client-all : (p client : ℕ) (rs : List Entry) (i count all : ℕ) → length rs ≤ i
+    → count + of_client client (own p (pend (drop i rs))) ≡ all → count ≡ all
+client-all p client rs i count all l h =
+    let none = ap (λ (ss : List Entry). of_client client (own p (pend ss))) (drop_all i rs l) in
+    omega (arith, none, h)

@@ -1,6 +1,6 @@
 -- What the checks of one record of a tail say. `before` are the records of the tail before it, so it
 -- would stand behind the stored records of its node and these.
-use Rattle.std.specs.Prelude.{Bool, List, None, Option, Some, [], count_by, if◌then◌else◌, true, ℕ}
+use Rattle.std.specs.Prelude.{Bool, List, Option, [], count_by, suc, true, ℕ}
 use Rattle.std.specs.Prelude.{◌&&◌, ◌++◌, ◌==◌, ◌||◌, ◌∷◌, ◌≡◌}
 use Rattle.urb_names.specs.LabelsAndContents.{Content, Label, Limits}
 use Rattle.urb_names.specs.Names.{has_name}
@@ -9,7 +9,6 @@ use Rattle.urb_names.specs.Pairs.{has_pair, message_of, own}
 use Rattle.urb_stable.specs.Entries.{Entry}
 use Rattle.urb_stable.specs.Fitting.{is_next_own, keeps_a, keeps_b, keeps_c, keeps_d}
 use Rattle.urb_stable.specs.Records.{cert, pend}
-use Rattle.urb_stable.specs.declared.record.Record.TheVariants.{Cert, Pend, PendCert}
 use Rattle.urb_node.specs.Part.{Node}
 use Rattle.urb_group.specs.GroupViews.{Shows}
 use Rattle.urb_group.specs.PlaceViews.{shown}
@@ -39,12 +38,6 @@ would_hold w p x m q = (q == p) || has_pair (pend (stored w q)) x m
 -- how many of the messages are this client's
 abbrev pub of_client : ℕ → List Content → ℕ
 of_client client messages = count_by (λ m. m.client == client) messages
-
--- the message of a record that holds a pair of p's own
-abbrev pub own_of : ℕ → Entry → Option Content
-own_of p (Pend x m) = if x.sender == p then Some m else None
-own_of p (PendCert x m) = if x.sender == p then Some m else None
-own_of p (Cert x) = None
 
 -- ---- answers about one node, for each node of a world that its place shows
 
@@ -85,6 +78,12 @@ KeepsB p place before r result =
 abbrev pub SenderHolds : {A : Type 0} → Limits → List (Place A) → Label → Content → Bool → Type 0
 SenderHolds size places x m result =
     (w : World) → Shows (shown size places) w → result ≡ has_pair (pend (stored w x.sender)) x m
+
+-- whether the node in this place would hold the pair if node p did
+abbrev pub WouldHold : {A : Type 0} → Limits → List (Place A) → ℕ → ℕ → Label → Content → Bool
+    → Type 0
+WouldHold size places p place x m result =
+    (w : World) → Shows (shown size places) w → result ≡ would_hold w p x m (suc place)
 
 -- how many nodes would hold the pair if node p did
 abbrev pub CountsHolders : {A : Type 0} → Limits → List (Place A) → ℕ → Label → Content → ℕ → Type 0
