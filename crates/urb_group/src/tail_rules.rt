@@ -104,7 +104,12 @@ fn is_new<A: Allocator + Copy>(
     let found = find_message(current, before, name);
     match entry {
         Record::Pend(_, _) | Record::PendCert(_, _) => found.is_none(),
-        Record::Cert(_) => found.is_some() && !is_certified(current, before, name),
+        Record::Cert(_) => {
+            if !found.is_some() {
+                return false;
+            }
+            !is_certified(current, before, name)
+        }
     }
 }
 

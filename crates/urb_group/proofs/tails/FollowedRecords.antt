@@ -1,24 +1,27 @@
 -- The four rules of one record after another are what makes records follow.
-use Rattle.std.proofs.Common.{Bool, List, None, Option, Some, [], ap, append-nil, append_assoc}
-use Rattle.std.proofs.Common.{cond, drop, eqb-true, false, is_none, is_some, length, not, refl}
+use Rattle.std.proofs.Common.{Bool, List, [], ap, append-nil, append_assoc, arith}
+use Rattle.std.proofs.Common.{cond, drop, false, length, refl}
 use Rattle.std.proofs.Common.{slice_index_or, subst, suc, sym, take, true, ℕ, ◌&&◌, ◌++◌, ◌+◌, ◌<◌}
-use Rattle.std.proofs.Common.{◌==◌, ◌↔◌, ◌∙◌, ◌∷◌, ◌≡◌, ◌≤◌, IsTrue}
+use Rattle.std.proofs.Common.{◌==◌, ◌∙◌, ◌∷◌, ◌≡◌, ◌≤◌}
 use Rattle.std.proofs.Math.Seq.{take-suc}
-use Rattle.std.proofs.lemmas.Bool.{and_from, and_parts, cond-false, cond-true, false≢true}
+use Rattle.std.proofs.lemmas.Bool.{and_from, and_parts, cond-false, false≢true}
 use Rattle.std.proofs.lemmas.List.{drop_all}
 use Rattle.urb_names.specs.LabelsAndContents.{Content, Label, Limits}
 use Rattle.urb_names.specs.Nodes.{is_node}
 use Rattle.urb_names.specs.Pairs.{has_pair}
 use Rattle.urb_stable.specs.Entries.{Entry}
-use Rattle.urb_stable.specs.Fitting.{Rules, keeps_a, keeps_b, keeps_c, keeps_d}
+use Rattle.urb_stable.specs.Fitting.{keeps_a, keeps_b, keeps_c, keeps_d}
 use Rattle.urb_stable.specs.Records.{pend}
 use Rattle.urb_stable.specs.declared.record.Record.TheVariants.{Cert, Pend, PendCert}
+use Rattle.urb_group.proofs.shown.ShownWorlds.{is-node, no-node}
 use Rattle.urb_group.proofs.tails.TailRecords.{from-here}
 use Rattle.urb_group.specs.GroupViews.{GroupView, Shows}
+use Rattle.urb_group.specs.PlaceViews.{shown}
 use Rattle.urb_group.specs.RunInvariant.{MayJoin}
 use Rattle.urb_group.specs.StoresAhead.{MayFollow, TellsTail}
 use Rattle.urb_group.specs.World.{World, stored, updated}
-use Rattle.urb_group.specs.internal.TailChecks.{may_follow, may_join}
+use Rattle.urb_group.specs.declared.node_moves.Node.{Node as Place}
+use Rattle.urb_group.specs.internal.TailChecks.{Joins, may_follow, may_join}
 
 -- ---- one record
 
@@ -128,6 +131,35 @@ module _ (size : Limits) (images : ℕ → List Entry) (p : ℕ) (records tail :
   follows-all i l h =
       ap (λ (rs : List Entry). may_follow size images p (records ++ take i tail) rs)
       (sym (drop_all i tail l)) ∙ h
+
+-- ---- the places of a group
+
+module _ {A : Type 0} (size : Limits) (places : List (Place A)) {group : GroupView}
+    (e : shown size places ≡ group) where
+  -- what is said of a record's places is so in each world that the group shows
+  pub joined : (others : List (Place A)) → others ≡ places → (p : ℕ) (before : List Entry)
+      (r : Entry) (b : Bool) → Joins size others p before r b → (w : World) → Shows group w
+      → b ≡ may_join group.size (stored w) p (stored w p ++ before) r
+  joined others f p before r b h w s =
+      subst (λ (g : GroupView). b ≡ may_join g.size (stored w) p (stored w p ++ before) r) e
+      (subst (λ (os : List (Place A)). Joins size os p before r b) f h w
+      (subst (λ (g : GroupView). Shows g w) (sym e) s))
+
+  size-is : (w : World) → Shows group w → size ≡ w.size
+  size-is w s = ap (λ (g : GroupView). g.size) e ∙ s.size
+
+  -- the node of a place is one of the group's
+  pub is-there : (at p : ℕ) → at < size.n → p ≡ suc at → (w : World) → Shows group w
+      → is_node w.size.n p ≡ true
+  is-there at p low own w s =
+      subst (λ (q : ℕ). is_node w.size.n q ≡ true) (sym own)
+      (is-node w.size.n at (subst (λ (l : Limits). at < l.n) (size-is w s) low))
+
+  -- a greater number is no node's
+  pub is-nowhere : (p : ℕ) → size.n < p → (w : World) → Shows group w
+      → is_node w.size.n p ≡ false
+  is-nowhere p past w s =
+      no-node w.size.n p (subst (λ (l : Limits). l.n < p) (size-is w s) past)
 
 -- ---- the answer
 

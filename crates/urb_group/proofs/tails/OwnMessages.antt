@@ -56,13 +56,18 @@ counting-push ms m h next j o e = at (cases_order j (length ms))
     at (inr (inr high)) =
         let f : None ≡ Some o = sym (get_past ms m j high) ∙ e in cc
 
+-- a group with one more node
+abbrev more_nodes : Limits → Limits
+more_nodes size = record { n = suc size.n; cap = size.cap }
+
 counting : (size : Limits) (p : ℕ) (rs : List Entry) → KeepsOwn size p [] rs
     → Counting (own p (pend rs))
 counting size p rs h =
-    pairs-all _ (λ q. rs) p (λ ps. Counting (own p ps)) (λ j m e. cc) more rs (own-kept size p rs h)
+    pairs-all (more_nodes size) (λ q. rs) p (λ ps. Counting (own p ps)) (λ j m e. cc) more rs
+    (own-kept size p rs h)
   where
     more : (e : List Entry) (x : Label) (m : Content) → Counting (own p (pend e))
-        → PairRules _ (λ q. rs) p e x m → Counting (own p (pend e ++ (x, m) ∷ []))
+        → PairRules (more_nodes size) (λ q. rs) p e x m → Counting (own p (pend e ++ (x, m) ∷ []))
     more e x m n k = at (cases_Bool (x.sender == p))
       where
         at : ((x.sender == p) ≡ true) ⊎ ((x.sender == p) ≡ false)

@@ -3,7 +3,7 @@ use Rattle.std.proofs.Common.{Bool, List, None, Option, Some, [], ap, arith, con
 use Rattle.std.proofs.Common.{inl, inr, is_none, is_some, length, length-append, ne_eqb, not, option_map, refl}
 use Rattle.std.proofs.Common.{slice_index_or, subst, suc, sym, true, ℕ, ⊎_elim, ◌&&◌, ◌++◌, ◌+◌}
 use Rattle.std.proofs.Common.{◌-◌, ◌<◌, ◌==◌, ◌||◌, ◌∙◌, ◌∷◌, ◌≡◌, ◌⊎◌}
-use Rattle.std.proofs.lemmas.Bool.{cond-false, cond-true}
+use Rattle.std.proofs.lemmas.Bool.{cond-false, cond-true, false≢true}
 use Rattle.std.specs.Bool.{MatchBool}
 use Rattle.std.specs.Option.{option_or}
 use Rattle.urb_names.specs.LabelsAndContents.{Content, Label, Limits}
@@ -28,6 +28,12 @@ use Rattle.urb_group.specs.internal.TailChecks.{CountsClient, FindsBehind, IsNam
 use Rattle.urb_group.specs.internal.TailChecks.{IsNextBehind, Joins, KeepsA, KeepsB, KeepsC, KeepsD}
 use Rattle.urb_group.specs.internal.TailChecks.{SenderHolds, WouldPass, may_join, of_client}
 
+-- the record holds a pair
+abbrev pub HoldsPair : Entry → Type 0
+HoldsPair r =
+    ((x : Label) × (m : Content) × (r ≡ Pend x m))
+    ⊎ ((x : Label) × (m : Content) × (r ≡ PendCert x m))
+
 -- the record holds this pair
 abbrev pub HasPair : Entry → Label → Content → Type 0
 HasPair r x m = (r ≡ Pend x m) ⊎ (r ≡ PendCert x m)
@@ -39,10 +45,11 @@ pub some-now : {X Y : Type 0} (f : X → Y) (o : Option X) → is_some (option_m
 some-now f None = refl
 some-now f (Some x) = refl
 
--- a found message is missing if its value is
-pub none-now : {X Y : Type 0} (f : X → Y) (o : Option X) → is_none (option_map f o) ≡ is_none o
-none-now f None = refl
-none-now f (Some x) = refl
+none-is : {X : Type 0} (b : Bool) (o : Option X) → is_some o ≡ not b → b ≡ is_none o
+none-is true None e = refl
+none-is false None e = absurd (false≢true e)
+none-is true (Some x) e = absurd (false≢true (sym e))
+none-is false (Some x) e = refl
 
 -- ---- the parts of rule A
 
@@ -89,22 +96,23 @@ module _ {A : Type 0} (size : Limits) (place : Place A) (before : List Entry) (r
   not-in-range e n s = a-range false e (n.records ++ before)
 
   -- a pair is new if its name is not pending
-  pub pair-new : (x : Label) (m : Content) (o : Option Content) → HasPair r x m
+  pub pair-new : (o : Option Content) (b : Bool) → HoldsPair r
       → true ≡ in_range size (name_of r) → FindsBehind place before (name_of r) o
-      → KeepsA size place before r (is_none o)
-  pair-new x m o is range finds n s =
-      ⊎_elim (λ e. of_pend e) (λ e. of_both e) is
+      → is_some o ≡ not b → KeepsA size place before r b
+  pair-new o b is range finds none n s =
+      none-is b o none
+      ∙ ⊎_elim (λ e. of_pend e.0 e.1 e.2) (λ e. of_both e.0 e.1 e.2) is
     where
-      of_pend : r ≡ Pend x m → is_none o ≡ keeps_a size (n.records ++ before) r
-      of_pend e =
+      of_pend : (x : Label) (m : Content) → r ≡ Pend x m → is_none o ≡ keeps_a size (n.records ++ before) r
+      of_pend x m e =
           ap is_none (finds n s ∙ ap (λ (q : Entry). message_of (pend (n.records ++ before))
           (name_of q)) e)
           ∙ (ap (λ c. c && is_none (message_of (pend (n.records ++ before)) x))
           (range ∙ ap (λ (q : Entry). in_range size (name_of q)) e)
           ∙ sym (ap (keeps_a size (n.records ++ before)) e))
 
-      of_both : r ≡ PendCert x m → is_none o ≡ keeps_a size (n.records ++ before) r
-      of_both e =
+      of_both : (x : Label) (m : Content) → r ≡ PendCert x m → is_none o ≡ keeps_a size (n.records ++ before) r
+      of_both x m e =
           ap is_none (finds n s ∙ ap (λ (q : Entry). message_of (pend (n.records ++ before))
           (name_of q)) e)
           ∙ (ap (λ c. c && is_none (message_of (pend (n.records ++ before)) x))
@@ -131,9 +139,10 @@ module _ {A : Type 0} (size : Limits) (place : Place A) (before : List Entry) (r
   -- a certificate of a pending name is new if the name is not certified
   pub certificate-new : (x : Label) (o : Option Content) (b : Bool) → r ≡ Cert x
       → true ≡ in_range size (name_of r) → FindsBehind place before (name_of r) o
-      → true ≡ is_some o → IsNamedBehind place before x b → KeepsA size place before r (not b)
+      → true ≡ is_some o → IsNamedBehind place before (name_of r) b
+      → KeepsA size place before r (not b)
   certificate-new x o b e range finds some named n s =
-      ap not (named n s)
+      ap not (named n s ∙ ap (λ (q : Entry). has_name (cert (n.records ++ before)) (name_of q)) e)
       ∙ (ap (λ c. c && not (has_name (cert (n.records ++ before)) x))
       (some ∙ ap is_some (finds n s ∙ ap (λ (q : Entry). message_of (pend (n.records ++ before))
       (name_of q)) e))

@@ -19,7 +19,7 @@ use Rattle.urb_stable.specs.Records.{pend}
 use Rattle.urb_group.proofs.shown.NodeAnswers.{was_read}
 use Rattle.urb_group.proofs.shown.NodeMoves.{place_shows}
 use Rattle.urb_group.specs.GroupViews.{Shows}
-use Rattle.urb_group.specs.PlaceViews.{shown, view_at}
+use Rattle.urb_group.specs.PlaceViews.{memory_in, shown, view_at}
 use Rattle.urb_group.specs.World.{World, stored, updated}
 use Rattle.urb_group.specs.declared.node_moves.Node.{Node as Place}
 use Rattle.urb_group.specs.internal.PlaceInvariant.{IsGroup, ShowsAt}
@@ -34,6 +34,13 @@ module _ {A : Type 0} {size : Limits} {places : List (Place A)} (group : IsGroup
   shows-read at node is low w s =
       place_shows size places group at node node
       (was_read places at size.n node group.placed.count low is) w s
+
+  -- it has the number of its place
+  pub number-read : (at : ℕ) (node : Place A) → node ≡ slice_index_or places at node → at < size.n
+      → (memory_in node).node ≡ suc at
+  number-read at node is low =
+      (group.placed.each at node
+      (was_read places at size.n node group.placed.count low is)).number
 
   -- a sender that is one of the nodes
   pub sender-holds : (x : Label) (m : Content) (at : ℕ) (node : Place A) (result : Bool)
@@ -86,7 +93,7 @@ count-first : (test : ℕ → Bool) (x : ℕ) (xs : List ℕ)
 count-first test x xs = sum_by-cons (λ y. cond (test y) 1 0) x xs
 
 numbers-last : (first k : ℕ)
-    → numbers_from first (k + 1) ≡ numbers_from first k ++ (first + k) ∷ []
+    → numbers_from first (suc k) ≡ numbers_from first k ++ (first + k) ∷ []
 numbers-last first zero = ap (λ (j : ℕ). j ∷ []) (at first)
   where
     at : (n : ℕ) → n ≡ n + 0
@@ -103,14 +110,19 @@ pub counted-more : (test : ℕ → Bool) (i count : ℕ) (b : Bool) → b ≡ te
     → count ≡ count_by test (numbers_from 1 i)
     → count + cond b 1 0 ≡ count_by test (numbers_from 1 (i + 1))
 counted-more test i count b e h =
-    let all = ap (count_by test) (numbers-last 1 i)
-    ∙ sum_by-append (λ (q : ℕ). cond (test q) 1 0) (numbers_from 1 i) ((1 + i) ∷ []) in
+    let all = ap (λ (k : ℕ). count_by test (numbers_from 1 k)) (more i)
+    ∙ (ap (count_by test) (numbers-last 1 i)
+    ∙ sum_by-append (λ (q : ℕ). cond (test q) 1 0) (numbers_from 1 i) ((1 + i) ∷ [])) in
     let one = count-first test (1 + i) [] in
-    let same : cond b 1 0 ≡ cond (test (1 + i)) 1 0 = ap (λ (c : Bool). cond c 1 0) (e ∙ ap test (at i))
-    in omega (arith, all, one, same, h)
+    let same : ◌≡◌ {A = ℕ} (cond b 1 0) (cond (test (1 + i)) 1 0) = 
+    ap (λ (c : Bool). cond c 1 0) (e ∙ ap test (at i)) in
+    omega (arith, all, one, same, h)
   where
     at : (n : ℕ) → suc n ≡ 1 + n
     at n = omega arith
+
+    more : (n : ℕ) → n + 1 ≡ suc n
+    more n = omega arith
 
 -- ---- a majority that holds the pair
 

@@ -7,14 +7,14 @@ loop-entry-preserved g c =
     record {
       all =
           own-counted c.args.node c.args.records.now c.loop-entry.entry-index c.entry-item.result
-          c.loop-entry.own c.count_one.result.0 _ c.loop-entry-test.true c.entry-item.is
-          c.count_one.ensures.own c.loop-entry.invariant.all;
+          c.loop-entry.own c.count_one-one.result.0 _ c.loop-entry-test.true c.entry-item.is
+          c.count_one-one.ensures.own c.loop-entry.invariant.all;
       ours =
           client-counted c.args.node c.args.client c.args.records.now c.loop-entry.entry-index
-          c.entry-item.result c.loop-entry.of_client c.count_one.result.1 _ c.loop-entry-test.true
-          c.entry-item.is c.count_one.ensures.of_client c.loop-entry.invariant.ours;
-      few = omega (arith, c.loop-entry.invariant.few, c.count_one.ensures.most.0);
-      fewer = omega (arith, c.loop-entry.invariant.fewer, c.count_one.ensures.most.1);
+          c.entry-item.result c.loop-entry.of_client c.count_one-one.result.1 _ c.loop-entry-test.true
+          c.entry-item.is c.count_one-one.ensures.of_client c.loop-entry.invariant.ours;
+      few = omega (arith, c.loop-entry.invariant.few, c.count_one-one.ensures.most.0);
+      fewer = omega (arith, c.loop-entry.invariant.fewer, c.count_one-one.ensures.most.1);
     }
 
 pub returns-clause-own : goal.returns-clause-own
