@@ -3,15 +3,15 @@
 //! A tail is a list of records that a store is to keep by one call, before the events that draft
 //! them. Each record is judged as if those before it were stored. `before` are those.
 
-ghost use Rattle.std.specs.Prelude.{◌+◌, ◌<◌, ◌≡◌, option_map, suc};
+ghost use Rattle.std.specs.Prelude.{◌+◌, ◌<◌, ◌≡◌, ◌≤◌, option_map, suc};
 ghost use Rattle.std.specs.Bool.{MatchBool};
 ghost use Rattle.urb_stable.specs.Fitting.{in_range};
 ghost use Rattle.urb_node.specs.CallEffects.{Holds as HoldsAt};
 ghost use Rattle.urb_group.specs.PlaceViews.{memory_in};
 ghost use Rattle.urb_group.specs.StoresAhead.{TellsTail};
 ghost use Rattle.urb_group.specs.internal.PlaceInvariant.{IsGroup, ShowsAt};
-ghost use Rattle.urb_group.specs.internal.TailChecks.{CountsClient, CountsHolders, FindsBehind};
-ghost use Rattle.urb_group.specs.internal.TailChecks.{IsNamedBehind, IsNextBehind, Joins, KeepsA};
+ghost use Rattle.urb_group.specs.internal.TailChecks.{CountsClient, CountsHolder, CountsHolders};
+ghost use Rattle.urb_group.specs.internal.TailChecks.{FindsBehind, IsNamedBehind, IsNextBehind, Joins, KeepsA};
 ghost use Rattle.urb_group.specs.internal.TailChecks.{KeepsB, KeepsC, KeepsD, SenderHolds, WouldHold};
 ghost use Rattle.urb_group.specs.internal.TailChecks.{WouldPass};
 
@@ -219,6 +219,26 @@ fn would_hold<A: Allocator + Copy>(
     nodes[place].has(name, message)
 }
 
+// Returns 1 if it would, or else 0.
+fn count_holder<A: Allocator + Copy>(
+    config: Config,
+    nodes: &[Node<A>],
+    at: usize,
+    place: usize,
+    name: Name,
+    message: &Message<A>,
+) -> u8
+    requires group { IsGroup config nodes.now }
+    requires within { place < config.n }
+    ensures count { CountsHolder config nodes.now (suc at) place name message.now result }
+    ensures most { result ≤ 1 }
+{
+    if would_hold(config, nodes, at, place, name, message) {
+        return 1;
+    }
+    0
+}
+
 // Counts the nodes that would hold a pair if the one in this place did.
 fn count_holders<A: Allocator + Copy>(
     config: Config,
@@ -233,9 +253,7 @@ fn count_holders<A: Allocator + Copy>(
     config.recall();
     let mut count = 0;
     for place in 0..usize::from(config.n()) {
-        if would_hold(config, nodes, at, place, name, message) {
-            count += 1;
-        }
+        count += count_holder(config, nodes, at, place, name, message);
     }
     count
 }

@@ -106,17 +106,17 @@ numbers-last first (suc k) =
     at a b = omega arith
 
 -- one more node is counted
-pub counted-more : (test : ℕ → Bool) (i count : ℕ) (b : Bool) → b ≡ test (suc i)
-    → count ≡ count_by test (numbers_from 1 i)
-    → count + cond b 1 0 ≡ count_by test (numbers_from 1 (i + 1))
-counted-more test i count b e h =
+pub counted-more : (test : ℕ → Bool) (i count one : ℕ)
+    → ◌≡◌ {A = ℕ} one (cond (test (suc i)) 1 0) → count ≡ count_by test (numbers_from 1 i)
+    → count + one ≡ count_by test (numbers_from 1 (i + 1))
+counted-more test i count one e h =
     let all = ap (λ (k : ℕ). count_by test (numbers_from 1 k)) (more i)
     ∙ (ap (count_by test) (numbers-last 1 i)
     ∙ sum_by-append (λ (q : ℕ). cond (test q) 1 0) (numbers_from 1 i) ((1 + i) ∷ [])) in
-    let one = count-first test (1 + i) [] in
-    let same : ◌≡◌ {A = ℕ} (cond b 1 0) (cond (test (1 + i)) 1 0) = 
-    ap (λ (c : Bool). cond c 1 0) (e ∙ ap test (at i)) in
-    omega (arith, all, one, same, h)
+    let last = count-first test (1 + i) [] in
+    let same : ◌≡◌ {A = ℕ} one (cond (test (1 + i)) 1 0) =
+    e ∙ ap (λ (k : ℕ). cond (test k) 1 0) (at i) in
+    omega (arith, all, last, same, h)
   where
     at : (n : ℕ) → suc n ≡ 1 + n
     at n = omega arith

@@ -1,6 +1,6 @@
 -- What the checks of one record of a tail say. `before` are the records of the tail before it, so it
 -- would stand behind the stored records of its node and these.
-use Rattle.std.specs.Prelude.{Bool, List, Option, [], count_by, suc, true, ℕ}
+use Rattle.std.specs.Prelude.{Bool, List, Option, [], count_by, if◌then◌else◌, suc, true, ℕ}
 use Rattle.std.specs.Prelude.{◌&&◌, ◌++◌, ◌==◌, ◌||◌, ◌∷◌, ◌≡◌}
 use Rattle.urb_names.specs.LabelsAndContents.{Content, Label, Limits}
 use Rattle.urb_names.specs.Names.{has_name}
@@ -84,6 +84,13 @@ abbrev pub WouldHold : {A : Type 0} → Limits → List (Place A) → ℕ → �
     → Type 0
 WouldHold size places p place x m result =
     (w : World) → Shows (shown size places) w → result ≡ would_hold w p x m (suc place)
+
+-- 1 if it would, or else 0
+abbrev pub CountsHolder : {A : Type 0} → Limits → List (Place A) → ℕ → ℕ → Label → Content → ℕ
+    → Type 0
+CountsHolder size places p place x m result =
+    (w : World) → Shows (shown size places) w
+    → result ≡ (if would_hold w p x m (suc place) then 1 else 0)
 
 -- how many nodes would hold the pair if node p did
 abbrev pub CountsHolders : {A : Type 0} → Limits → List (Place A) → ℕ → Label → Content → ℕ → Type 0
