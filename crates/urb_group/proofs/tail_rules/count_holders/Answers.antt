@@ -9,9 +9,9 @@ loop-place-preserved g c =
     record {
       holders =
           λ v s. counted-more (would_hold v (suc c.args.at) c.args.name c.args.message.now)
-          c.loop-place.place c.loop-place.count c.count_holder.result
-          (c.count_holder.ensures.count v s) (c.loop-place.invariant.holders v s);
-      few = omega (arith, c.loop-place.invariant.few, c.count_holder.ensures.most);
+          c.loop-place.place c.loop-place.count c.count_holder-count.result
+          (c.count_holder-count.ensures.count v s) (c.loop-place.invariant.holders v s);
+      few = omega (arith, c.loop-place.invariant.few, c.count_holder-count.ensures.most);
     }
 
 pub returns : goal.returns
