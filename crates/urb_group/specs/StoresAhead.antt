@@ -23,8 +23,8 @@ abbrev pub IsAhead : List Entry → List Entry → List Entry → Type 0
 IsAhead records [] image = image ≡ records
 IsAhead records (r ∷ tail) image = (image ≡ records) ⊎ IsAhead (records ++ r ∷ []) tail image
 
--- What a stop may leave of node p: what it may leave of its part of the world, or the node's records
--- followed by a beginning of a tail that may follow them.
+-- What a stop may leave of node p: what it may leave of its part of the world, or the node's
+-- records followed by a beginning of a tail that may follow them.
 abbrev pub MayLeaveAhead : World → ℕ → List Entry → Type 0
 MayLeaveAhead w p image =
     MayLeave (w.node p) image

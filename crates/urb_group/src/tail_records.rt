@@ -53,10 +53,7 @@ fn certifies<A: Allocator>(entry: &Record<Message<A>>, name: Name) -> bool
 }
 
 /// Says whether one of these records certifies a name.
-pub(crate) fn is_certified_among<A: Allocator>(
-    records: &[Record<Message<A>>],
-    name: Name,
-) -> bool
+pub(crate) fn is_certified_among<A: Allocator>(records: &[Record<Message<A>>], name: Name) -> bool
     ensures { result ≡ has_name (cert records.now) name }
 {
     for entry in records {

@@ -11,9 +11,9 @@ ghost use Rattle.urb_group.specs.PlaceViews.{memory_in};
 ghost use Rattle.urb_group.specs.StoresAhead.{TellsTail};
 ghost use Rattle.urb_group.specs.internal.PlaceInvariant.{IsGroup, ShowsAt};
 ghost use Rattle.urb_group.specs.internal.TailChecks.{CountsClient, CountsHolder, CountsHolders};
-ghost use Rattle.urb_group.specs.internal.TailChecks.{FindsBehind, IsNamedBehind, IsNextBehind, Joins, KeepsA};
-ghost use Rattle.urb_group.specs.internal.TailChecks.{KeepsB, KeepsC, KeepsD, SenderHolds, WouldHold};
-ghost use Rattle.urb_group.specs.internal.TailChecks.{WouldPass};
+ghost use Rattle.urb_group.specs.internal.TailChecks.{FindsBehind, IsNamedBehind, IsNextBehind};
+ghost use Rattle.urb_group.specs.internal.TailChecks.{Joins, KeepsA, KeepsB, KeepsC, KeepsD};
+ghost use Rattle.urb_group.specs.internal.TailChecks.{SenderHolds, WouldHold, WouldPass};
 
 use crate::Group;
 use crate::node_moves::{Node, place_of};
@@ -43,7 +43,10 @@ fn count_client<A: Allocator + Copy>(current: &Node<A>, node: NodeId, client: Cl
 {
     let own = current.own_len();
     for back in 0..own {
-        let name = Name { sender: node, seq: own - back };
+        let name = Name {
+            sender: node,
+            seq: own - back,
+        };
         if let Some(message) = current.message(name) {
             if message.client() == client {
                 return message.number();
@@ -137,7 +140,11 @@ fn is_next<A: Allocator + Copy>(
     if !add_up(current.own_len(), own, name.seq - 1) {
         return false;
     }
-    add_up(count_client(current, node, message.client()), of_client, message.number() - 1)
+    add_up(
+        count_client(current, node, message.client()),
+        of_client,
+        message.number() - 1,
+    )
 }
 
 // Says whether a record keeps rule B: a pair of the node's own comes in its turn.

@@ -1,5 +1,5 @@
 -- A store that holds records ahead of its node, while the node drafts and commits them one by one.
-use Rattle.std.proofs.Common.{Bool, List, None, Option, Some, [], ap, append_assoc, append-nil, eqb-true}
+use Rattle.std.proofs.Common.{Bool, List, Option, [], ap, append_assoc, append-nil, eqb-true}
 use Rattle.std.proofs.Common.{false, length, refl, subst, suc, sym, true, ℕ, ◌++◌, ◌==◌, ◌∙◌, ◌∷◌}
 use Rattle.std.proofs.Common.{◌≡◌}
 use Rattle.urb_group.proofs.steps.DraftsInSteps.{step-elsewhere, step-size}
@@ -15,13 +15,11 @@ use Rattle.urb_group.specs.World.{World, stored}
 use Rattle.urb_names.specs.ListPrefixes.{Begins}
 use Rattle.urb_names.specs.LabelsAndContents.{Limits}
 use Rattle.urb_names.specs.Nodes.{is_node}
-use Rattle.urb_names.specs.Pairs.{has_pair}
 use Rattle.urb_node.specs.Part.{Node, Ready, State, Storing}
 use Rattle.urb_node.specs.Steps.{doubt}
 use Rattle.urb_node.specs.declared.cause.Cause.{Cause}
 use Rattle.urb_stable.proofs.KeptRules.{Grows}
 use Rattle.urb_stable.specs.Entries.{Entry}
-use Rattle.urb_stable.specs.Records.{pend}
 use Rattle.urb_stable.specs.StableStorage.{IsContents}
 use Rattle.urb_stable.specs.declared.stable.Stable.{Ghosts}
 
@@ -67,9 +65,11 @@ module _ {S A : Type 0} (g : Ghosts S A) where
       grown q true f =
           subst (λ (i : ℕ). Begins (stored w i) (stored last i)) (sym (eqb-true q p f))
           (r ∷ [], sym records)
-      grown q false f =
-          ([], append-nil (stored w q)
-          ∙ sym (ap (λ (node : Node). node.records) (step-elsewhere mid receipt q f) ∙ same q))
+      grown q false f = (
+        [],
+        append-nil (stored w q)
+            ∙ sym (ap (λ (node : Node). node.records) (step-elsewhere mid receipt q f) ∙ same q),
+      )
 
       grows : Grows (stored w) (stored last)
       grows q x m k = pair-begins (stored w q) (stored last q) (grown q (q == p) refl) x m k

@@ -1,25 +1,24 @@
 -- What a stop leaves fits together also if storages hold records ahead of their events.
-use Rattle.std.proofs.Common.{Bool, List, None, Option, Some, [], ap, append_assoc, cond, eqb-true}
-use Rattle.std.proofs.Common.{append-nil, false, inl, inr, refl, subst, sym, true, ℕ, ◌++◌, ◌==◌, ◌∙◌}
-use Rattle.std.proofs.Common.{◌∷◌, ◌≡◌, ◌⊎◌}
+use Rattle.std.proofs.Common.{Bool, List, None, Some, [], ap, append_assoc, cond, eqb-true}
+use Rattle.std.proofs.Common.{append-nil, false, inl, inr, refl, subst, sym, true, ℕ, ◌++◌, ◌==◌}
+use Rattle.std.proofs.Common.{◌∙◌}
+use Rattle.std.proofs.Common.{◌∷◌, ◌≡◌}
 use Rattle.urb_group.proofs.safety.AgreeingLogs.{entries-begin}
 use Rattle.urb_group.proofs.safety.SafeWorlds.{safe}
 use Rattle.urb_group.proofs.steps.DraftedRecords.{AllKept}
 use Rattle.urb_group.proofs.steps.Growth.{log-begins, pair-begins}
 use Rattle.urb_group.proofs.steps.Runs.{kept-fits}
 use Rattle.urb_group.proofs.stops.StoppedWorlds.{accepted-again}
-use Rattle.urb_group.specs.StoresAhead.{IsAhead, MayFollow, MayLeaveAhead, SurvivesAhead}
-use Rattle.urb_group.specs.RunInvariant.{IsKept, MayJoin, NodesKept, StateKept}
+use Rattle.urb_group.specs.StoresAhead.{IsAhead, MayFollow, SurvivesAhead}
+use Rattle.urb_group.specs.RunInvariant.{IsKept, MayJoin, StateKept}
 use Rattle.urb_group.specs.ProcessStops.{MayLeave}
 use Rattle.urb_group.specs.World.{World, stored, updated}
-use Rattle.urb_names.proofs.FoundPairs.{has_pair-left}
 use Rattle.urb_names.specs.ListPrefixes.{Begins}
-use Rattle.urb_names.specs.LabelsAndContents.{Content, Label, Limits}
+use Rattle.urb_names.specs.LabelsAndContents.{Limits}
 use Rattle.urb_names.specs.Pairs.{has_pair}
 use Rattle.urb_node.specs.Part.{Down, Node, Ready, State, Storing}
 use Rattle.urb_node.specs.Steps.{doubt}
 use Rattle.urb_stable.proofs.Contents.{IsEither, contents-either}
-use Rattle.urb_stable.proofs.JoinedRecords.{pend-append}
 use Rattle.urb_stable.proofs.KeptRules.{Grows, kept-grow, kept-push, rules-grow}
 use Rattle.urb_stable.specs.Entries.{Entry}
 use Rattle.urb_stable.specs.Fitting.{Kept}
@@ -39,8 +38,8 @@ ahead-begins records (r ∷ tail) image (inr h) =
 -- ---- what the state of a node leaves is such an image
 
 -- the held or the doubtful record, as a tail
-pub state-ahead : (size : Limits) (images : ℕ → List Entry) (p : ℕ) (node : Node) (image : List Entry)
-    → StateKept size images p node.records node.state → MayLeave node image
+pub state-ahead : (size : Limits) (images : ℕ → List Entry) (p : ℕ) (node : Node)
+    (image : List Entry) → StateKept size images p node.records node.state → MayLeave node image
     → (tail : List Entry) × MayFollow size images p node.records tail
     × IsAhead node.records tail image
 state-ahead size images p node image kept left =
@@ -65,7 +64,8 @@ state-ahead size images p node image kept left =
 
 -- ---- the images fit together
 
-module _ (w : World) (images : ℕ → List Entry) (begins : (q : ℕ) → Begins (stored w q) (images q)) where
+module _ (w : World) (images : ℕ → List Entry)
+    (begins : (q : ℕ) → Begins (stored w q) (images q)) where
   grows : Grows (stored w) images
   grows q x m h = pair-begins (stored w q) (images q) (begins q) x m h
 

@@ -10,7 +10,7 @@ use Rattle.urb_names.specs.LabelsAndContents.{Content, Label, Limits}
 use Rattle.urb_names.specs.Nodes.{is_node}
 use Rattle.urb_names.specs.Pairs.{has_pair}
 use Rattle.urb_stable.specs.Entries.{Entry}
-use Rattle.urb_stable.specs.Fitting.{keeps_a, keeps_b, keeps_c, keeps_d}
+use Rattle.urb_stable.specs.Fitting.{keeps_a, keeps_b, keeps_c}
 use Rattle.urb_stable.specs.Records.{pend}
 use Rattle.urb_stable.specs.declared.record.Record.TheVariants.{Cert, Pend, PendCert}
 use Rattle.urb_group.proofs.shown.ShownWorlds.{is-node, no-node}
@@ -69,9 +69,10 @@ follow-to : (size : Limits) (images : ℕ → List Entry) (p : ℕ) (records tai
     → may_follow size images p records tail ≡ true → MayFollow size images p records tail
 follow-to size images p records [] h = tt
 follow-to size images p records (r ∷ tail) h =
-    let parts = and_parts (may_join size images p records r) _ h in
-    (join-to size images p records r parts.0,
-    follow-to size images p (records ++ r ∷ []) tail parts.1)
+    let parts = and_parts (may_join size images p records r) _ h in (
+      join-to size images p records r parts.0,
+      follow-to size images p (records ++ r ∷ []) tail parts.1,
+    )
 
 -- ---- the walk over a tail
 

@@ -1,15 +1,15 @@
 -- How many of a node's own messages are a client's, as a walk from the last one back finds it.
-use Rattle.std.proofs.Common.{Bool, List, None, Option, Some, [], ap, arith, cond, count_by, drop}
+use Rattle.std.proofs.Common.{Bool, List, None, Option, Some, [], ap, arith, cond, drop}
 use Rattle.std.proofs.Common.{eqb-true, false, inl, inr, length, refl, slice_get, subst, suc, sym}
-use Rattle.std.proofs.Common.{take, true, zero, ℕ, ⊎_elim, ◌++◌, ◌+◌, ◌-◌, ◌<◌, ◌==◌, ◌∙◌, ◌∷◌}
+use Rattle.std.proofs.Common.{take, true, zero, ℕ, ◌++◌, ◌+◌, ◌-◌, ◌<◌, ◌==◌, ◌∙◌, ◌∷◌}
 use Rattle.std.proofs.Common.{◌≡◌, ◌≤◌, ◌⊎◌}
-use Rattle.std.proofs.lemmas.Bool.{and_parts, cases_Bool, cases_order, cond-false, cond-true}
+use Rattle.std.proofs.lemmas.Bool.{and_parts, cases_Bool, cases_order}
 use Rattle.std.proofs.lemmas.List.{drop_all, take_all}
 use Rattle.urb_names.proofs.FoundPairs.{own-other, own-push}
 use Rattle.urb_names.proofs.Places.{drop_get, get_front, get_last, get_past, get_some}
 use Rattle.urb_names.specs.LabelsAndContents.{Content, Label, Limits}
 use Rattle.urb_names.specs.Names.{name}
-use Rattle.urb_names.specs.Pairs.{message_of, next_number, own}
+use Rattle.urb_names.specs.Pairs.{message_of, own}
 use Rattle.urb_node.specs.CallEffects.{CountsOwn, FindsMessage}
 use Rattle.urb_node.specs.Part.{Node}
 use Rattle.urb_stable.proofs.KeptRules.{PairRules, pairs-all}
@@ -52,7 +52,8 @@ counting-push ms m h next j o e = at (cases_order j (length ms))
         (sym (take-front ms (m ∷ []) j low ∙ take_all j ms all)))
     at (inr (inl low)) =
         h j o (sym (get_front ms (m ∷ []) j low) ∙ e)
-        ∙ ap (λ xs. suc (of_client o.client xs)) (sym (take-front ms (m ∷ []) j (omega (arith, low))))
+        ∙ ap (λ xs. suc (of_client o.client xs))
+        (sym (take-front ms (m ∷ []) j (omega (arith, low))))
     at (inr (inr high)) =
         let f : None ≡ Some o = sym (get_past ms m j high) ∙ e in cc
 
@@ -132,9 +133,10 @@ module _ {A : Type 0} (place : Place A) (p client own : ℕ) where
   -- before the walk no message is left out
   pub sought-first : CountsOwn (ShowsAt place) own → IsSought place client (own - 0)
   sought-first counts n s =
-      let same : own ≡ length n.broadcast = counts n s in
-      (omega (arith, same),
-      ap (of_client client) (drop_all (own - 0) n.broadcast (omega (arith, same))))
+      let same : own ≡ length n.broadcast = counts n s in (
+        omega (arith, same),
+        ap (of_client client) (drop_all (own - 0) n.broadcast (omega (arith, same))),
+      )
 
   -- past the first message the client has none
   pub sought-none : (back : ℕ) → own ≤ back → IsSought place client (own - back)
@@ -179,10 +181,11 @@ module _ {A : Type 0} (place : Place A) (p client own : ℕ) where
     pub sought-later : (m : Content)
         → FindsMessage (ShowsAt place) (name p (own - back)) (Some m)
         → (m.client == client) ≡ false → IsSought place client (own - (back + 1))
-    sought-later m finds other n s =
-        (let l = (h n s).0 in omega (arith, l, low),
-        other-counts n.broadcast client j m (sym (found (Some m) finds n s)) other
-        (none_behind n s))
+    sought-later m finds other n s = (
+      let l = (h n s).0 in omega (arith, l, low),
+      other-counts n.broadcast client j m (sym (found (Some m) finds n s)) other
+          (none_behind n s),
+    )
 
     -- the walk ends with the client's last message
     pub sought-found : (m : Content)

@@ -1,6 +1,7 @@
 -- What the parts of a check say of one record, together.
 use Rattle.std.proofs.Common.{Bool, List, None, Option, Some, [], ap, arith, cond, eq-eqb, false}
-use Rattle.std.proofs.Common.{inl, inr, is_none, is_some, length, length-append, ne_eqb, not, option_map, refl}
+use Rattle.std.proofs.Common.{is_none, is_some, length, length-append, ne_eqb, not, option_map}
+use Rattle.std.proofs.Common.{refl}
 use Rattle.std.proofs.Common.{slice_index_or, subst, suc, sym, true, ℕ, ⊎_elim, ◌&&◌, ◌++◌, ◌+◌}
 use Rattle.std.proofs.Common.{◌-◌, ◌<◌, ◌==◌, ◌||◌, ◌∙◌, ◌∷◌, ◌≡◌, ◌⊎◌}
 use Rattle.std.proofs.lemmas.Bool.{cond-false, cond-true, false≢true}
@@ -26,7 +27,7 @@ use Rattle.urb_group.specs.declared.node_moves.Node.{Node as Place}
 use Rattle.urb_group.specs.internal.PlaceInvariant.{IsGroup, ShowsAt}
 use Rattle.urb_group.specs.internal.TailChecks.{CountsClient, FindsBehind, IsNamedBehind}
 use Rattle.urb_group.specs.internal.TailChecks.{IsNextBehind, Joins, KeepsA, KeepsB, KeepsC, KeepsD}
-use Rattle.urb_group.specs.internal.TailChecks.{SenderHolds, WouldPass, may_join, of_client}
+use Rattle.urb_group.specs.internal.TailChecks.{SenderHolds, WouldPass, of_client}
 
 -- the record holds a pair
 abbrev pub HoldsPair : Entry → Type 0
@@ -103,7 +104,8 @@ module _ {A : Type 0} (size : Limits) (place : Place A) (before : List Entry) (r
       none-is b o none
       ∙ ⊎_elim (λ e. of_pend e.0 e.1 e.2) (λ e. of_both e.0 e.1 e.2) is
     where
-      of_pend : (x : Label) (m : Content) → r ≡ Pend x m → is_none o ≡ keeps_a size (n.records ++ before) r
+      of_pend : (x : Label) (m : Content) → r ≡ Pend x m
+          → is_none o ≡ keeps_a size (n.records ++ before) r
       of_pend x m e =
           ap is_none (finds n s ∙ ap (λ (q : Entry). message_of (pend (n.records ++ before))
           (name_of q)) e)
@@ -111,7 +113,8 @@ module _ {A : Type 0} (size : Limits) (place : Place A) (before : List Entry) (r
           (range ∙ ap (λ (q : Entry). in_range size (name_of q)) e)
           ∙ sym (ap (keeps_a size (n.records ++ before)) e))
 
-      of_both : (x : Label) (m : Content) → r ≡ PendCert x m → is_none o ≡ keeps_a size (n.records ++ before) r
+      of_both : (x : Label) (m : Content) → r ≡ PendCert x m
+          → is_none o ≡ keeps_a size (n.records ++ before) r
       of_both x m e =
           ap is_none (finds n s ∙ ap (λ (q : Entry). message_of (pend (n.records ++ before))
           (name_of q)) e)
@@ -317,8 +320,8 @@ module _ {A : Type 0} {size : Limits} {places : List (Place A)} (group : IsGroup
 
   abbrev d_of : World → Bool
   d_of w =
-      keeps_d size.n (updated (stored w) p ((stored w p ++ before) ++ r ∷ [])) (stored w p ++ before)
-      r
+      keeps_d size.n (updated (stored w) p ((stored w p ++ before) ++ r ∷ []))
+      (stored w p ++ before) r
 
   shows-own : (w : World) → Shows (shown size places) w → ShowsAt node (w.node p)
   shows-own w s =

@@ -1,13 +1,14 @@
 -- Which nodes hold a pair, and how many would if one more did.
-use Rattle.std.proofs.Common.{Bool, List, Some, [], ap, arith, cond, count_by, eq-eqb, false, length, map}
-use Rattle.std.proofs.Common.{ne_eqb, refl, slice_index_or, subst, suc, sym, true, zero, ℕ, ◌++◌, ◌+◌}
+use Rattle.std.proofs.Common.{Bool, List, Some, [], ap, arith, cond, count_by, eq-eqb, false}
+use Rattle.std.proofs.Common.{length, map}
+use Rattle.std.proofs.Common.{ne_eqb, refl, slice_index_or, suc, sym, true, zero, ℕ, ◌++◌, ◌+◌}
 use Rattle.std.proofs.Common.{◌<◌, ◌==◌, ◌||◌, ◌∙◌, ◌∷◌, ◌≡◌, ◌≤◌}
 use Rattle.std.proofs.lemmas.List.{length-map}
 use Rattle.std.proofs.lemmas.List.Sums.{sum_by-append, sum_by-cons}
 use Rattle.urb_names.proofs.FoundPairs.{has_pair-found, has_pair-itself, has_pair-left}
 use Rattle.urb_names.proofs.SameNames.{majority_grows}
 use Rattle.urb_names.specs.LabelsAndContents.{Content, Label, Limits}
-use Rattle.urb_names.specs.Nodes.{majority_passes, nodes, numbers_from}
+use Rattle.urb_names.specs.Nodes.{majority_passes, numbers_from}
 use Rattle.urb_names.specs.Pairs.{has_pair, message_of}
 use Rattle.urb_node.specs.CallEffects.{Holds}
 use Rattle.urb_node.specs.NodeViews.{NodeView, no_view}
@@ -50,7 +51,8 @@ module _ {A : Type 0} {size : Limits} {places : List (Place A)} (group : IsGroup
       holds (w.node (suc at)) (shows-read at node is low w s)
       ∙ ap (λ (q : ℕ). has_pair (pend (stored w q)) x m) (sym own)
 
-  past : (views : List NodeView) (i : ℕ) → length views ≤ i → slice_index_or views i no_view ≡ no_view
+  past : (views : List NodeView) (i : ℕ) → length views ≤ i
+      → slice_index_or views i no_view ≡ no_view
   past [] i l = refl
   past (v ∷ views) zero l = absurd (omega arith)
   past (v ∷ views) (suc i) l = past views i (omega arith)

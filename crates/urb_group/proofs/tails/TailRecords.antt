@@ -1,6 +1,7 @@
 -- What a list of records says, from its first record on, and behind other records.
-use Rattle.std.proofs.Common.{Bool, List, None, Option, Some, [], ap, arith, cond, count_by, drop}
-use Rattle.std.proofs.Common.{drop-cons, false, length, length-append, refl, slice_index_or, suc, sym, true, ℕ}
+use Rattle.std.proofs.Common.{Bool, List, None, Option, Some, [], ap, arith, cond, drop}
+use Rattle.std.proofs.Common.{drop-cons, false, length, length-append, refl, slice_index_or, suc}
+use Rattle.std.proofs.Common.{sym, true, ℕ}
 use Rattle.std.proofs.Common.{◌++◌, ◌+◌, ◌<◌, ◌==◌, ◌||◌, ◌∙◌, ◌∷◌, ◌≡◌, ◌≤◌}
 use Rattle.std.proofs.lemmas.List.{drop_all}
 use Rattle.std.proofs.lemmas.List.Folds.{list_any-append}

@@ -1,5 +1,5 @@
--- What the checks of one record of a tail say. `before` are the records of the tail before it, so it
--- would stand behind the stored records of its node and these.
+-- What the checks of one record of a tail say. `before` are the records of the tail before it, so
+-- it would stand behind the stored records of its node and these.
 use Rattle.std.specs.Prelude.{Bool, List, Option, [], count_by, if◌then◌else◌, suc, true, ℕ}
 use Rattle.std.specs.Prelude.{◌&&◌, ◌++◌, ◌==◌, ◌||◌, ◌∷◌, ◌≡◌}
 use Rattle.urb_names.specs.LabelsAndContents.{Content, Label, Limits}
@@ -114,8 +114,8 @@ abbrev pub KeepsD : {A : Type 0} → Limits → List (Place A) → ℕ → List 
 KeepsD size places p before r result =
     (w : World) → Shows (shown size places) w
     → result
-    ≡ keeps_d size.n (updated (stored w) p ((stored w p ++ before) ++ r ∷ [])) (stored w p ++ before)
-    r
+    ≡ keeps_d size.n (updated (stored w) p ((stored w p ++ before) ++ r ∷ []))
+    (stored w p ++ before) r
 
 -- whether it keeps all four
 abbrev pub Joins : {A : Type 0} → Limits → List (Place A) → ℕ → List Entry → Entry → Bool → Type 0

@@ -85,7 +85,8 @@ pub fn stores_ahead()
     ensures of_both { IsAheadOf (in_memory (Unit {0})) (started (limits 3 10)) 1
         (pending 1 1 ∷ pending 1 2 ∷ [])
         (with_record (pending 1 2) (with_record (pending 1 1) empty_memory)) }
-    ensures of_nothing { IsAheadOf (in_memory (Unit {0})) (started (limits 3 10)) 1 [] empty_memory }
+    ensures of_nothing { IsAheadOf (in_memory (Unit {0})) (started (limits 3 10)) 1 []
+        empty_memory }
     ensures of_less_than_both { IsAheadOf (in_memory (Unit {0})) (started (limits 3 10)) 1
         (pending 1 1 ∷ pending 1 2 ∷ []) (with_record (pending 1 1) empty_memory) → ⊥ }
     ensures of_a_misfit { IsAheadOf (in_memory (Unit {0})) (started (limits 3 10)) 1

@@ -63,7 +63,11 @@ const ROWS: [(u8, &[Form], bool); 20] = [
     (1, &[Form::Cert(1, 1), Form::Pend(1, 3)], true),
     (3, &[Form::PendCert(1, 1), Form::Pend(1, 2)], true),
     (3, &[Form::Pend(1, 2), Form::Cert(1, 2)], true),
-    (3, &[Form::Pend(3, 1), Form::Pend(3, 2), Form::Pend(1, 1)], true),
+    (
+        3,
+        &[Form::Pend(3, 1), Form::Pend(3, 2), Form::Pend(1, 1)],
+        true,
+    ),
     // No such node.
     (4, &[], false),
     // Known already, stored or in the list.
@@ -107,7 +111,8 @@ fn follow_another(alloc: Global, number: u32) -> Option<bool> {
     }
     let message = Message::copy_of(alloc, ClientId::new(8)?, number, b"a").ok()?;
     let mut tail = Vec::new(alloc);
-    tail.push(Record::Pend(Name { sender, seq: 2 }, message)).ok()?;
+    tail.push(Record::Pend(Name { sender, seq: 2 }, message))
+        .ok()?;
     Some(group.may_follow(sender, &tail))
 }
 

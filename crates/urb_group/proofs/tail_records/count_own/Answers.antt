@@ -11,8 +11,8 @@ loop-entry-preserved g c =
           c.count_one-one.ensures.own c.loop-entry.invariant.all;
       ours =
           client-counted c.args.node c.args.client c.args.records.now c.loop-entry.entry-index
-          c.entry-item.result c.loop-entry.of_client c.count_one-one.result.1 _ c.loop-entry-test.true
-          c.entry-item.is c.count_one-one.ensures.of_client c.loop-entry.invariant.ours;
+          c.entry-item.result c.loop-entry.of_client c.count_one-one.result.1 _
+          c.loop-entry-test.true c.entry-item.is c.count_one-one.ensures.of_client c.loop-entry.invariant.ours;
       few = omega (arith, c.loop-entry.invariant.few, c.count_one-one.ensures.most.0);
       fewer = omega (arith, c.loop-entry.invariant.fewer, c.count_one-one.ensures.most.1);
     }

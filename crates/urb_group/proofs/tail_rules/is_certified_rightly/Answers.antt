@@ -19,12 +19,12 @@ bounds-nodes-at g c = omega (arith, c.requires.within, c.requires.group.placed.c
 
 pub returns-in-Some : goal.returns-in-Some
 returns-in-Some g c =
-    passes-later c.requires.group c.args.at c.index-nodes-at.result c.index-nodes-at.is c.requires.within
-    c.args.before.now c.args.entry.now c.in-Cert.name c.in-Some.message.now _ c.in-Cert.is
+    passes-later c.requires.group c.args.at c.index-nodes-at.result c.index-nodes-at.is
+    c.requires.within c.args.before.now c.args.entry.now c.in-Cert.name c.in-Some.message.now _ c.in-Cert.is
     (rw c.in-Some.is at c.find_message.ensures) c.would_pass-in-Some.ensures
 
 pub returns-in-None : goal.returns-in-None
 returns-in-None g c =
-    passes-never c.requires.group c.args.at c.index-nodes-at.result c.index-nodes-at.is c.requires.within
-    c.args.before.now c.args.entry.now c.in-Cert.name c.in-Cert.is
+    passes-never c.requires.group c.args.at c.index-nodes-at.result c.index-nodes-at.is
+    c.requires.within c.args.before.now c.args.entry.now c.in-Cert.name c.in-Cert.is
     (rw c.in-None.is at c.find_message.ensures)

@@ -1,4 +1,4 @@
-use Rattle.std.proofs.Common.{ap, arith, sym, take, ◌++◌, ◌∙◌}
+use Rattle.std.proofs.Common.{sym, take, ◌∙◌}
 use Rattle.urb_group.proofs.tails.FollowedRecords.{follows-all, follows-first, follows-is}
 use Rattle.urb_group.proofs.tails.FollowedRecords.{follows-next, follows-not, follows-nowhere}
 use Rattle.urb_group.proofs.tails.FollowedRecords.{is-nowhere, is-there, joined}
@@ -8,7 +8,8 @@ use Rattle.urb_group.proofs.group.Group.may_follow.Goals as goal
 pub returns-in_default : goal.returns-in_default
 returns-in_default g c =
     follows-nowhere c.args.self.now c.args.node c.args.records.now
-    (is-nowhere c.self.inside.config c.self.inside.nodes.items c.self.view_is c.args.node c.in_default.ensures)
+    (is-nowhere c.self.inside.config c.self.inside.nodes.items c.self.view_is c.args.node
+    c.in_default.ensures)
 
 pub loop-i-init : goal.loop-i-init
 loop-i-init g c w s =

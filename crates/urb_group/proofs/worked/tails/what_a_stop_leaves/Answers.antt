@@ -1,6 +1,6 @@
 -- What a stop may leave of a node whose store holds records ahead, and what it may not.
-use Rattle.std.proofs.Common.{List, Some, [], ap, inl, inr, refl, subst, true, ℕ, ◌++◌, ◌∷◌}
-use Rattle.std.proofs.Common.{◌≡◌, ◌⊎◌}
+use Rattle.std.proofs.Common.{List, [], inl, inr, refl, subst, true, ℕ, ◌∷◌}
+use Rattle.std.proofs.Common.{◌≡◌}
 use Rattle.std.proofs.lemmas.Bool.{false≢true}
 use Rattle.urb_stable.specs.Entries.{Entry}
 use Rattle.urb_stable.specs.Fitting.{keeps_d}
