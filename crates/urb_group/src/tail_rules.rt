@@ -330,18 +330,17 @@ fn may_join<A: Allocator + Copy>(
 }
 
 impl<A: Allocator + Copy> Group<A> {
-    /// Says whether these records may follow the stored ones of a node, one after the other, so
-    /// that its store may keep them by one call before the events that draft them. A stop is then
-    /// survived, whatever beginning of them it leaves (`laws::every_stop_ahead_is_survived`).
+    /// Says whether these records may follow the stored ones of a node, one after the other. If so,
+    /// the node's store may keep them by one call, before the events that draft them. A stop is
+    /// survived then, whatever beginning of them it leaves (`laws::every_stop_ahead_is_survived`).
     ///
     /// `true`: each record keeps the fitting rules A to D, as if those before it were stored. It
     /// stays so while other nodes store more. `false`: the group has no such node, or a record
-    /// breaks a rule. The records need not be those that the node's next events draft: what a
-    /// draft's record is, only the event says.
+    /// breaks a rule. The answer doesn't say that the node's next events draft these records.
     ///
-    /// Allocates no memory. It looks up each record by its name, and reads the earlier records of
-    /// the list. For a pair of the node's own, it reads the node's own messages back to the last
-    /// one of the pair's client.
+    /// Allocates no memory. It looks up each record by its name, and reads the records before it in
+    /// the list. For a pair of the node's own it also reads own messages of the node: from the last
+    /// one back to the last one of the pair's client.
     pub fn may_follow(&self, node: NodeId, records: &[Record<Message<A>>]) -> bool
         ensures { TellsTail self.now node records.now result }
     {
