@@ -38,7 +38,7 @@ mod sessions;
 pub use buffered_answers::{BufferedAnswers, BufferedWriter, FlushingInput};
 pub use format::{MOST_ENTRIES, UNKNOWN_OPCODE};
 pub use pages::one_page_after_another;
-pub use request::{Request, encode_request, parse_request};
+pub use request::{Control, Request, encode_request, parse_request};
 pub use response::{Entries, NodeState, Response, encode_response};
 pub use response_parser::parse_response;
 pub use response_receiver::{ResponseFault, read_response};

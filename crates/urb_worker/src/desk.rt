@@ -8,7 +8,7 @@ ghost use Rattle.urb_client.specs.Responses.{said_by};
 ghost use Rattle.urb_show.specs.Lists.{list_at};
 ghost use Rattle.urb_show.specs.Pages.{IsPageOf};
 ghost use Rattle.urb_worker.specs.Desks.{IsJobOf, LearnsTold, Looks, Reads, Sees, Tells, Works};
-ghost use Rattle.urb_worker.specs.Desks.{gone, told_of};
+ghost use Rattle.urb_worker.specs.Desks.{control_job, gone, told_of};
 ghost use mathlib.Core.List.{IsPrefix};
 ghost use Rattle.urb_worker.specs.internal.Desks.{IsWork};
 ghost use Rattle.urb_worker.specs.internal.SeenEvents.{Follows};
@@ -23,7 +23,7 @@ use std::alloc::Global;
 use std::marker::Model;
 use std::sync::Wait;
 use std::time::{Clock, Duration, Instant};
-use urb_client::{Desk, Request, Response};
+use urb_client::{Control, Desk, Request, Response};
 use urb_names::{NoMemory, NodeId};
 use urb_show::{HouseName, Moment, Page, ReadFault, ReadPosition, Told};
 
@@ -304,9 +304,7 @@ impl<'a, K: HouseName, R: Wait + Clock> Desk for NodeDesk<'a, K, R> {
                 self.service.in_flight.await_calm(self.rt);
                 self.work(request)
             }
-            Request::Status => self.work(request),
-            Request::Crash => self.work(request),
-            Request::Restart => self.work(request),
+            Request::Ask(_) => self.work(request),
         }
     }
 }
@@ -340,9 +338,19 @@ fn is_job_of(node: NodeId, request: &Request, job: &Job) -> bool
             && *of == *client
             && *ranked == *number
             && bytes.as_slice() == payload.as_slice(),
-        (Request::Status, Job::Status(at)) => *at == node,
-        (Request::Crash, Job::Crash(at)) => *at == node,
-        (Request::Restart, Job::Restart(at)) => *at == node,
+        (Request::Ask(control), _) => is_control_job(node, *control, job),
+        _ => false,
+    }
+}
+
+// Whether a job is what a request without fields asks at a node.
+fn is_control_job(node: NodeId, control: Control, job: &Job) -> bool
+    ensures { IsTrue result ↔ (job.now ≡ control_job node control) }
+{
+    match (control, job) {
+        (Control::Status, Job::Status(at)) => *at == node,
+        (Control::Crash, Job::Crash(at)) => *at == node,
+        (Control::Restart, Job::Restart(at)) => *at == node,
         _ => false,
     }
 }

@@ -2,7 +2,7 @@
 
 ghost use Rattle.std.specs.Prelude.{◌≡◌, IfOk};
 ghost use Rattle.urb_client.specs.Requests.{asked_by};
-ghost use Rattle.urb_worker.specs.Desks.{IsJobOf};
+ghost use Rattle.urb_worker.specs.Desks.{IsJobOf, control_job};
 ghost use Rattle.urb_worker.specs.internal.Desks.{IsWork};
 
 use crate::{Finished, Job, Ticket, TicketPlaces};
@@ -10,7 +10,7 @@ use crossbeam_channel::{SendError, Sender};
 use std::alloc::{AllocError, Global};
 use std::marker::Model;
 use std::sync::Wait;
-use urb_client::Request;
+use urb_client::{Control, Request};
 use urb_names::{NoMemory, NodeId};
 use urb_show::HouseName;
 
@@ -147,8 +147,17 @@ fn job_of(alloc: Global, node: NodeId, request: &Request) -> Result<Job, NoMemor
             number: *number,
             payload: payload.share(alloc)?,
         }),
-        Request::Status => Ok(Job::Status(node)),
-        Request::Crash => Ok(Job::Crash(node)),
-        Request::Restart => Ok(Job::Restart(node)),
+        Request::Ask(control) => Ok(control_job(node, *control)),
+    }
+}
+
+// The job at a node that does what a request without fields asks.
+fn control_job(node: NodeId, control: Control) -> Job
+    ensures { result ≡ control_job node control }
+{
+    match control {
+        Control::Status => Job::Status(node),
+        Control::Crash => Job::Crash(node),
+        Control::Restart => Job::Restart(node),
     }
 }
