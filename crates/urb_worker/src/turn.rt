@@ -15,7 +15,10 @@ ghost use Rattle.urb_worker.specs.WholeTurns.{misrouted};
 use crate::Job;
 use crate::loans::{Loan, Loans};
 use crate::settling::Settling;
-use crate::turn_stages::{Ending, Stage, finish_event, run_store, start_event};
+use crate::turn_stages::{
+    Ending, Stage, finish_event, run_store, stage_after_crash, stage_after_message,
+    stage_after_tick, stage_of_restart,
+};
 use std::alloc::Global;
 use std::marker::Model;
 use std::sync::Wait;
@@ -101,7 +104,23 @@ impl<K: HouseName> Turn<K> {
     {
         house.recall();
         let lent = house.mark();
-        let (stage, count) = start_event(alloc, house, &job);
+        let (stage, count) = match &job {
+            Job::Submit {
+                node,
+                client,
+                number,
+                payload,
+            } => stage_after_message(house.submit(alloc, *node, *client, *number, payload)),
+            Job::Arrive { node, bytes } => stage_after_message(house.arrive(
+                alloc,
+                *node,
+                bytes.as_slice(),
+            )),
+            Job::Tick(node) => stage_after_tick(house.tick(alloc, *node)),
+            Job::Crash(node) => stage_after_crash(*node, house.crash(*node)),
+            Job::Restart(node) => (stage_of_restart(house.state(*node)), 0),
+            Job::Status(_) => (Stage::Asking, 0),
+        };
         let loan = Loan::new(lent, house.mark());
         Turn {
             job,
