@@ -36,21 +36,6 @@ few : {T E : Type 0} (r : Result T E) → count_of r ≤ 1
 few (Ok done) = omega (arith)
 few (Err refused) = omega (arith)
 
--- the beginning of a turn adds its number of events to the House's count
-pub begins_count : (old : HouseView) (j : Job) (new : HouseView) (at : Stage) (events : ℕ)
-    → Begins old j new at events → new.events ≡ count_after events old.events
-begins_count old (job.Submit p client number payload) new at events (r, takes, counts, to, is) =
-    rw is (call_events _ r old new counts)
-begins_count old (job.Arrive p bytes) new at events (r, takes, counts, to, is) =
-    rw is (call_events _ r old new counts)
-begins_count old (job.Tick p) new at events (r, ticks, counts, to, is) =
-    rw is (call_events _ r old new counts)
-begins_count old (job.Crash p) new at events (r, crashes, counts, to, is) =
-    rw is (call_events _ r old new counts)
-begins_count old (job.Restart p) new at events (state, answers, same, to, is) =
-    rw is (same_events old new same)
-begins_count old (job.Status p) new at events (same, to, is) = rw is (same_events old new same)
-
 -- the beginning of a turn has at most one event
 pub begins_few : (old : HouseView) (j : Job) (new : HouseView) (at : Stage) (events : ℕ)
     → Begins old j new at events → events ≤ 1
