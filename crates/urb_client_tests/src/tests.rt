@@ -54,7 +54,7 @@ fn session_matches(alloc: Global, desk: &mut OneNode<Global>, line: Line<'_>) ->
     let mut room = [0u8; 40];
     let mut output = FailingWriter::new(&mut room, 40, 0);
     let ended = session(alloc, &mut input, &mut output, desk);
-    ended == Ok(end) && output.written() == answered
+    ended.how() == Ok(end) && output.written() == answered
 }
 
 // Returns how many lines of the worked session go as they say, each in its own session at one desk.

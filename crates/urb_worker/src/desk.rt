@@ -1,7 +1,7 @@
 //! The desk of a running node: it passes requests to the node's worker, and does reads itself.
 
 ghost use Rattle.std.specs.Prelude.{◌≡◌, ◌⊎◌, ◌≤◌, ◌↔◌, ◌-◌, [], IfOk, IsTrue, MatchOption, OnErr};
-ghost use Rattle.std.specs.Prelude.{length};
+ghost use Rattle.std.specs.Prelude.{MatchResult, length};
 ghost use Rattle.urb_client.specs.declared.format.TheConstants.{MOST_ENTRIES};
 ghost use Rattle.urb_client.specs.Requests.{asked_by};
 ghost use Rattle.urb_client.specs.Responses.{said_by};
@@ -18,6 +18,7 @@ use crate::desk_queue::DeskQueue;
 use crate::loans::copy_moment;
 use crate::node_service::DeskService;
 use crate::responses::{down_response, response_to_read, response_to_turn};
+use crate::worker_gone::WorkerGone;
 use crate::{Finished, Job, NodeService};
 use std::alloc::Global;
 use std::marker::Model;
@@ -162,21 +163,22 @@ impl<'a, K: HouseName, R: Wait + Clock> NodeDesk<'a, K, R> {
     }
 
     // Turns the worker's result into the client's response, after the reader has learnt what was
-    // published. If there is no result, or the result is of another job or an earlier turn, the
+    // published. If the worker is gone, or the result is of another job or an earlier turn, the
     // response is the refusal `Down`.
-    fn respond(&mut self, request: &Request, came: Option<Finished<K>>) -> Response
+    fn respond(&mut self, request: &Request, came: Result<Finished<K>, WorkerGone>) -> Response
         ensures node { self.new.node ≡ self.old.node }
         ensures works { Works K.origin self.old (asked_by request.now) (said_by result) self.new }
-        // It is the refusal `Down` only if no turn came, or that of another job, or one that
-        // doesn't follow what the desk has seen.
-        ensures told { MatchOption came (said_by result ≡ gone)
+        // It is the refusal `Down` only if the worker is gone, or a turn of another job came, or one
+        // that doesn't follow what the desk has seen.
+        ensures told { MatchResult came
             (λ finished. IsJobOf self.old.node (asked_by request.now) finished.job
             → Follows self.old.past finished.ran finished.loans
-            → said_by result ≡ told_of finished.reply finished.status) }
+            → said_by result ≡ told_of finished.reply finished.status)
+            (λ witness. said_by result ≡ gone) }
     {
         match came {
-            Some(finished) => self.respond_if_asked(request, finished),
-            None => down_response(),
+            Ok(finished) => self.respond_if_asked(request, finished),
+            Err(_) => down_response(),
         }
     }
 

@@ -6,16 +6,17 @@ ghost use Rattle.urb_worker.specs.Desks.{events_until};
 ghost use Rattle.urb_worker.specs.Loans.{AreLoans, IsLoan};
 ghost use Rattle.urb_worker.specs.Settlings.{published_by, told_in};
 ghost use Rattle.urb_worker.specs.Stages.{is_stored};
+ghost use Rattle.urb_worker.specs.internal.Arrivals.{IsArrival};
 ghost use Rattle.urb_worker.specs.internal.SeenEvents.{Follows, back_of, end_of};
 ghost use Rattle.urb_worker.specs.internal.Stages.{is_drafted};
 ghost use Rattle.urb_worker.specs.Turns.{Begins, Finishes, HasBegun, Stores};
 ghost use Rattle.urb_show.specs.Pasts.{IsLedTo};
 ghost use Rattle.urb_worker.specs.WholeTurns.{misrouted};
 
-use crate::Job;
 use crate::loans::{Loan, Loans};
 use crate::settling::Settling;
 use crate::turn_stages::{Ending, Stage, finish_event, run_store, start_event};
+use crate::{HandledDatagram, Job};
 use std::alloc::Global;
 use std::marker::Model;
 use std::sync::Wait;
@@ -307,12 +308,11 @@ impl<K: HouseName> Finished<K> {
         }
     }
 
-    // The bytes of the datagram, if the job was an arrival.
-    pub(crate) fn into_datagram(self) -> Option<Vec<u8>> {
+    /// The datagram, if the job was an arrival.
+    pub fn into_datagram(self) -> Option<HandledDatagram>
+        ensures { IfSome result (λ it. IsArrival it.node it.bytes.items self.job) }
+    {
         let Finished { job, .. } = self;
-        match job {
-            Job::Arrive { bytes, .. } => Some(bytes),
-            _ => None,
-        }
+        HandledDatagram::of_job(job)
     }
 }

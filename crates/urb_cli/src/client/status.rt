@@ -132,7 +132,7 @@ pub fn status_at<R: Net<Listener = TcpListener, Stream = TcpStream>>(
     ensures { IfOk result (λ shown. IsShown (status_shown (address_of at.entry)) (shown_by shown)) }
 {
     let stream = connect_patiently(rt, at)?;
-    Ok(status_over(alloc, &mut &stream, &mut &stream, at)?)
+    Ok(status_over(alloc, &mut stream.ends(), &mut stream.ends(), at)?)
 }
 
 // Says on standard output that the node at this address doesn't answer, and why on standard error.

@@ -55,7 +55,7 @@ fn a_session_of_seventy_thousand_frames(rt: HostRuntime) -> Result<(), Fail> {
     let mut output = FailingWriter::new(room.as_mut_slice(), PIECE, 0);
     let mut desk = OneNode::new(alloc);
     let ended = session(alloc, &mut input, &mut output, &mut desk);
-    assert!(rt; ended == Ok(Ended::Closed));
+    assert!(rt; ended.how() == Ok(Ended::Closed));
     assert!(rt; output.written() == answered.as_slice());
     Ok(())
 }

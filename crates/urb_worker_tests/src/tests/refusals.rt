@@ -122,8 +122,8 @@ fn is_answered<K: HouseName, R: Wait + Clock>(
     let mut desk = NodeDesk::new(rt, alloc, node, service, position);
     let mut input = sent;
     let mut output = Vec::new(alloc);
-    let ended = session(alloc, &mut input, &mut output, &mut desk);
-    ended == Ok(Ended::BadFrame) && output.as_slice() == answered
+    let end = session(alloc, &mut input, &mut output, &mut desk);
+    end.how() == Ok(Ended::BadFrame) && output.as_slice() == answered
 }
 
 // The same with the node's worker over this store.

@@ -1,15 +1,15 @@
-use Rattle.std.proofs.Common.{rules, refl, ap}
+use Rattle.std.proofs.Common.{rules, refl}
 use Rattle.std.proofs.lemmas.Result.{err_from_is_err_and}
 use Rattle.urb_client.specs.Responses.{said_by}
-use Rattle.urb_client.proofs.SessionProgress.{one_more, breaks, not_answered, not_written}
-use Rattle.urb_client.proofs.SessionProgress.{whole_met, whole_refused, broken_taken}
-use Rattle.urb_client.proofs.sessions.session.Goals as goal
+use Rattle.urb_client.proofs.SessionProgress.{one_more, breaks, going, not_answered, not_written}
+use Rattle.urb_client.proofs.SessionProgress.{whole_met, whole_refused, broken_taken, unwritten}
+use Rattle.urb_client.proofs.sessions.answer_frames.Goals as goal
 
 pub returns-in-Broken-clause-ended : goal.returns-in-Broken-clause-ended
 returns-in-Broken-clause-ended g c =
     let piece = rw c.in-Broken.is at c.in_ok-read_frame.ensures.piece in
     breaks g.D.Desk.answers (g.R.Read.remaining c.args.reader.now)
-    _ _ _ _ _ _ _ _ c.loop.invariant.going piece
+    _ _ _ _ _ _ _ _ (going g.D.Desk.answers _ _ _ _ _ _ _ c.loop.invariant.going) piece
     (rw c.refused-refused.ensures at c.in_ok-write_response-in-Broken.ensures.ok)
 
 pub returns-in_err-write_response-in-Broken-clause-broken_off :
@@ -21,9 +21,9 @@ returns-in_err-write_response-in-Broken-clause-broken_off g c =
     let piece = rw c.in-Broken.is at c.in_ok-read_frame.ensures.piece in
     rw (p.1, p.2) (not_written g.D.Desk.answers g.D.Desk.refuses
     (g.R.Read.remaining c.args.reader.now)
-    c.in_err-write_response-in-Broken.field-0.0 _ _ _ _ _ _ _ _ c.loop.invariant.going
-    (broken_taken _ _ _ _ piece refl) c.in_err-write_response-in-Broken.ensures.read
-    (λ h. ap g.W.Write.contents (c.in_err-write_response-in-Broken.ensures.err h)))
+    c.in_err-write_response-in-Broken.field-0.0 _ _ _ _ _ _ _ _ (going g.D.Desk.answers _ _ _ _ _ _ _ c.loop.invariant.going)
+    (broken_taken _ _ _ _ piece refl)
+    (unwritten g.W.Write.contents _ _ _ c.in_err-write_response-in-Broken.ensures.err))
 
 pub returns-in_err-response-in-Whole-clause-broken_off :
     goal.returns-in_err-response-in-Whole-clause-broken_off
@@ -33,7 +33,8 @@ returns-in_err-response-in-Whole-clause-broken_off g c =
     c.from_residual-in_err-response-in-Whole.ensures.1 in
     let piece = rw c.in-Whole.is at c.in_ok-read_frame.ensures.piece in
     rw (p.1, p.2) (not_answered g.D.Desk.answers g.D.Desk.refuses
-    (g.R.Read.remaining c.args.reader.now) _ _ c.respond.new.desk _ _ _ _ c.loop.invariant.going
+    (g.R.Read.remaining c.args.reader.now) _ _ _ c.respond.new.desk _ _ _ _
+    (going g.D.Desk.answers _ _ _ _ _ _ _ c.loop.invariant.going)
     (whole_refused g.D.Desk.answers g.D.Desk.refuses _ c.respond.new.desk _ _ _ piece.2
     (search rules) (search rules) c.in_err-response-in-Whole.ensures.refused))
 
@@ -46,19 +47,19 @@ returns-in_err-write_response-in-Whole-clause-broken_off g c =
     let piece = rw c.in-Whole.is at c.in_ok-read_frame.ensures.piece in
     rw (p.1, p.2) (not_written g.D.Desk.answers g.D.Desk.refuses
     (g.R.Read.remaining c.args.reader.now)
-    c.in_err-write_response-in-Whole.field-0.0 _ _ _ _ _ _ _ _ c.loop.invariant.going
+    c.in_err-write_response-in-Whole.field-0.0 _ _ _ _ _ _ _ _
+    (going g.D.Desk.answers _ _ _ _ _ _ _ c.loop.invariant.going)
     (whole_met g.D.Desk.answers _ c.respond.new.desk _ _ _
     (said_by c.in_ok-response-in-Whole.response) piece.2 (search rules)
     (search rules) c.in_ok-response-in-Whole.ensures.answered)
-    c.in_err-write_response-in-Whole.ensures.read
-    (λ h. ap g.W.Write.contents (c.in_err-write_response-in-Whole.ensures.err h)))
+    (unwritten g.W.Write.contents _ _ _ c.in_err-write_response-in-Whole.ensures.err))
 
 pub loop-preserved : goal.loop-preserved
 loop-preserved g c =
     let piece = rw c.in-Whole.is at c.in_ok-read_frame.ensures.piece in record {
       room = search rules;
       going =
-          one_more g.D.Desk.answers (g.R.Read.remaining c.args.reader.now)
+          one_more g.D.Desk.answers _ (g.R.Read.remaining c.args.reader.now)
           _ _ _ _ _ _ _ _ _ _ c.loop.invariant.going piece.2 (search rules)
           (search rules) c.in_ok-response-in-Whole.ensures.answered
           c.in_ok-write_response-in-Whole.ensures.ok;
