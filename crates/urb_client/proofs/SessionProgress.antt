@@ -160,8 +160,8 @@ module _ {S : Type 0} (answers : S → Asked → Said → S → Type 0) where
       (some : 0 < length body) (small : length body ≤ LONGEST_REQUEST)
       (a : Answers answers mid read said new) (w : Appends after later (encoding said))
       → length
-      (more input bytes rest old mid new before after later body said read is p c some small a w)
-      .events ≡ length p.events + 1
+      (more input bytes rest old mid new before after later body said read is p c some small a
+      w).events ≡ length p.events + 1
   more_counted input bytes rest old mid new before after later body said (Ok asked) is p c some
       small a w = length-append p.events (Asks asked ∷ [])
   more_counted input bytes rest old mid new before after later body said (Err code) is p c some
@@ -185,7 +185,7 @@ module _ {S : Type 0} (answers : S → Asked → Said → S → Type 0) where
         more input bytes rest old mid new before after later body said
             (request_of body) refl p.0 c some small a w,
         more_counted input bytes rest old mid new before after later body said
-            (request_of body) refl p.0 c some small a w ∙ ap (λ n. n + 1) p.1,
+            (request_of body) refl p.0 c some small a w ∙ ap (λ (n : ℕ). n + 1) p.1,
       )
 
   -- the input ends between two frames

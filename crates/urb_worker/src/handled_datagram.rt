@@ -1,6 +1,7 @@
 //! A datagram that its node's worker has handled.
 
 ghost use Rattle.std.specs.Prelude.{◌≡◌, IfSome};
+ghost use Rattle.urb_worker.specs.Jobs.{node_of};
 ghost use Rattle.urb_worker.specs.internal.Arrivals.{IsArrival};
 
 use crate::Job;
@@ -17,7 +18,8 @@ pub struct HandledDatagram {
 impl HandledDatagram {
     /// The datagram of a job, if the job is an arrival.
     pub(crate) fn of_job(job: Job) -> Option<HandledDatagram>
-        ensures { IfSome result (λ it. IsArrival it.node it.bytes.items job) }
+        ensures bytes { IfSome result (λ it. IsArrival it.node it.bytes.items job) }
+        ensures node { IfSome result (λ it. it.node ≡ node_of job) }
     {
         match job {
             Job::Arrive { node, bytes } => Some(HandledDatagram { node, bytes }),

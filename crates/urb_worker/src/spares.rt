@@ -1,6 +1,6 @@
 //! Buffers of datagrams that a node has handled, for its next datagrams.
 
-ghost use Rattle.std.specs.Prelude.{◌≡◌, ◌-◌, IfSome, Some, option_map, slice_get};
+ghost use Rattle.std.specs.Prelude.{◌≡◌, ◌-◌, IfSome, Some, slice_get};
 
 use crate::{HandledDatagram, Station};
 use std::sync::Mutex;
@@ -52,25 +52,22 @@ impl Spares {
     }
 }
 
-/// The buffers of one node. Only datagrams of this node go into them.
+/// The buffers of one node, at its station. Only datagrams of this node go into them.
 #[derive(Drop)]
 pub(crate) struct NodeSpares<'s> {
     node: NodeId,
-    spares: &'s Spares,
+    station: &'s Station,
 }
 
 impl<'s> NodeSpares<'s> {
     /// The buffers of a node, whose station is among those of the nodes 1, 2, .. `None` if it isn't.
     pub(crate) fn of(stations: &'s [Station], node: NodeId) -> Option<NodeSpares<'s>>
         ensures node { IfSome result (λ it. it.node ≡ node) }
-        ensures spares { IfSome result (λ it.
-            option_map (λ s. s.spares) (slice_get stations.now (node - 1)) ≡ Some it.spares.now) }
+        ensures station { IfSome result
+            (λ it. slice_get stations.now (node - 1) ≡ Some it.station.now) }
     {
         match stations.get(usize::from(node.number()) - 1) {
-            Some(station) => Some(NodeSpares {
-                node,
-                spares: &station.spares,
-            }),
+            Some(station) => Some(NodeSpares { node, station }),
             None => None,
         }
     }
@@ -79,6 +76,6 @@ impl<'s> NodeSpares<'s> {
     pub(crate) fn put(&self, datagram: HandledDatagram)
         requires { datagram.node ≡ self.now.node }
     {
-        self.spares.put(datagram.into_bytes());
+        self.station.spares.put(datagram.into_bytes());
     }
 }

@@ -66,7 +66,10 @@ pub(crate) fn start_timer<'s, E, K: HouseName + Send + Sync, R: Wait + Clock + S
         nodes: queues.count(),
         millis,
     };
-    if scope.spawn(move || timer(rt, stop, millis, queues)).is_err() {
+    if scope
+        .spawn(move || timer(rt, stop, millis, queues))
+        .is_err()
+    {
         return None;
     }
     Some(ticking)

@@ -84,14 +84,16 @@ impl TicketPlaces {
     pub fn take<R: Wait>(&self, rt: &R) -> TakenPlace<'_> {
         let mut free = self.free.lock(rt);
         for _ in rt.forever() {
-            if let Some(place) = free.take() {
-                MutexGuard::unlock(free);
-                return TakenPlace {
-                    places: self,
-                    place,
-                };
+            match free.take() {
+                Some(place) => {
+                    MutexGuard::unlock(free);
+                    return TakenPlace {
+                        places: self,
+                        place,
+                    };
+                }
+                None => free = self.given_back.wait(rt, free),
             }
-            free = self.given_back.wait(rt, free);
         }
         unreachable!()
     }

@@ -3,10 +3,10 @@
 ghost use Rattle.std.specs.Prelude.{◌≡◌, ◌-◌, ◌≤◌, ◌↔◌, IfSome, IsTrue, true};
 ghost use Rattle.urb_worker.specs.Counting.{count_after};
 ghost use Rattle.urb_worker.specs.Desks.{events_until};
+ghost use Rattle.urb_worker.specs.Jobs.{node_of};
 ghost use Rattle.urb_worker.specs.Loans.{AreLoans, IsLoan};
 ghost use Rattle.urb_worker.specs.Settlings.{published_by, told_in};
 ghost use Rattle.urb_worker.specs.Stages.{is_stored};
-ghost use Rattle.urb_worker.specs.internal.Arrivals.{IsArrival};
 ghost use Rattle.urb_worker.specs.internal.SeenEvents.{Follows, back_of, end_of};
 ghost use Rattle.urb_worker.specs.internal.Stages.{is_drafted};
 ghost use Rattle.urb_worker.specs.Turns.{Begins, Finishes, HasBegun, Stores};
@@ -310,7 +310,7 @@ impl<K: HouseName> Finished<K> {
 
     /// The datagram, if the job was an arrival.
     pub fn into_datagram(self) -> Option<HandledDatagram>
-        ensures { IfSome result (λ it. IsArrival it.node it.bytes.items self.job) }
+        ensures { IfSome result (λ it. it.node ≡ node_of self.job) }
     {
         let Finished { job, .. } = self;
         HandledDatagram::of_job(job)

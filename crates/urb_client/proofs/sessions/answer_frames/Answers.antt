@@ -21,7 +21,8 @@ returns-in_err-write_response-in-Broken-clause-broken_off g c =
     let piece = rw c.in-Broken.is at c.in_ok-read_frame.ensures.piece in
     rw (p.1, p.2) (not_written g.D.Desk.answers g.D.Desk.refuses
     (g.R.Read.remaining c.args.reader.now)
-    c.in_err-write_response-in-Broken.field-0.0 _ _ _ _ _ _ _ _ (going g.D.Desk.answers _ _ _ _ _ _ _ c.loop.invariant.going)
+    c.in_err-write_response-in-Broken.field-0.0 _ _ _ _ _ _ _ _
+    (going g.D.Desk.answers _ _ _ _ _ _ _ c.loop.invariant.going)
     (broken_taken _ _ _ _ piece refl)
     (unwritten g.W.Write.contents _ _ _ c.in_err-write_response-in-Broken.ensures.err))
 
