@@ -1,10 +1,10 @@
 -- A session so far: what was read, answered and written.
-use Rattle.std.proofs.Common.{◌≡◌, ◌≢◌, ℕ, ◌<◌, ◌≤◌, List, [], ◌∷◌, ◌++◌, Option, Some, None}
+use Rattle.std.proofs.Common.{◌≡◌, ℕ, ◌<◌, ◌≤◌, List, [], ◌∷◌, ◌++◌, Option, Some, None}
 use Rattle.std.proofs.Common.{Result, Ok, Err, length, refl, sym, ap, ◌∙◌, subst, append_assoc}
 use Rattle.std.proofs.Common.{append-nil, inl, inr, ◌+◌, length-append}
 use Rattle.std.specs.Prelude.{IfSome, IsSomeAnd}
 use Rattle.std.specs.Io.KnownBytes.{Consumes, Appends, IsAtEnd}
-use Rattle.std.proofs.KnownBytes.{Appends-trans}
+use Rattle.std.proofs.KnownBytes.{Appends-nil, Appends-trans}
 use Rattle.urb_client.specs.declared.format.TheConstants.{LONGEST_REQUEST}
 use Rattle.urb_client.specs.declared.sessions.Ended.TheVariants.{Closed, BadFrame}
 use Rattle.urb_client.specs.declared.sessions.SessionFault.{SessionFault}
@@ -60,6 +60,21 @@ module _ {S : Type 0} (answers : S → Asked → Said → S → Type 0) where
       IfSome from (λ input. IsSomeAnd known
       (λ rest. (served : Served answers input rest old new before after)
       × (length served.events ≡ count)))
+
+  -- no frame has come yet
+  pub no_frame_yet : (from : Option (List ℕ)) (old : S) (before : Option (List ℕ))
+      → GoingFor 0 from from old old before before
+  no_frame_yet None old before = tt
+  no_frame_yet (Some input) old before = (
+    record {
+      events = [];
+      output = [];
+      begins = refl;
+      replies = (refl, refl);
+      written = Appends-nil before;
+    },
+    refl,
+  )
 
   -- what is known after some frames, without their number
   pub going : (count : ℕ) (from known : Option (List ℕ)) (old new : S)
@@ -162,6 +177,7 @@ module _ {S : Type 0} (answers : S → Asked → Said → S → Type 0) where
       → length
       (more input bytes rest old mid new before after later body said read is p c some small a
       w).events ≡ length p.events + 1
+  unfolding more
   more_counted input bytes rest old mid new before after later body said (Ok asked) is p c some
       small a w = length-append p.events (Asks asked ∷ [])
   more_counted input bytes rest old mid new before after later body said (Err code) is p c some

@@ -43,7 +43,7 @@ fn after_last_read(came: io::Result<usize>) -> Result<usize, ReadFailed>
 // Reads once. A read that a signal interrupts is tried again.
 fn read_some<R: Read>(reader: &mut R, buffer: &mut [u8]) -> Result<usize, ReadFailed>
     requires { 0 < length buffer.old }
-    ensures bound { IfOk result (λ n. n ≤ length buffer.old) }
+    ensures bound { IfOk result (λ n. n ≤ length buffer.new) }
     ensures bytes { IfOk result
         (λ n. Consumes (R.remaining reader.old) (R.remaining reader.new) (take n buffer.new)) }
     ensures end { IfOk result (λ n. n ≡ 0 → IsAtEnd (R.remaining reader.new)) }

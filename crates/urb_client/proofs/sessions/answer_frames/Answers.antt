@@ -1,7 +1,9 @@
-use Rattle.std.proofs.Common.{rules, refl}
+use Rattle.std.proofs.Common.{◌≡◌, arith, refl, rules}
 use Rattle.std.proofs.lemmas.Result.{err_from_is_err_and}
 use Rattle.urb_client.specs.Responses.{said_by}
+use Rattle.urb_client.specs.declared.sessions.TheConstants.{MOST_FRAMES}
 use Rattle.urb_client.proofs.SessionProgress.{one_more, breaks, going, not_answered, not_written}
+use Rattle.urb_client.proofs.SessionProgress.{no_frame_yet, too_many}
 use Rattle.urb_client.proofs.SessionProgress.{whole_met, whole_refused, broken_taken, unwritten}
 use Rattle.urb_client.proofs.sessions.answer_frames.Goals as goal
 
@@ -65,3 +67,15 @@ loop-preserved g c =
           (search rules) c.in_ok-response-in-Whole.ensures.answered
           c.in_ok-write_response-in-Whole.ensures.ok;
     }
+
+pub loop-init : goal.loop-init
+loop-init g c = record {
+  room = refl;
+  going = no_frame_yet g.D.Desk.answers _ _ _;
+}
+
+pub returns-clause-broken_off : goal.returns-clause-broken_off
+returns-clause-broken_off g c =
+    let all : c.loop.counter ≡ MOST_FRAMES =
+    omega (arith, c.loop-test.false, c.loop.auto.counter-end) in
+    too_many g.D.Desk.answers g.D.Desk.refuses _ _ _ _ _ _ (rw all at c.loop.invariant.going)
