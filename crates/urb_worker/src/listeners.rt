@@ -231,8 +231,8 @@ where
                 × (length K.base ≤ MAX_NODES)
                 × (vec_len room.now.nodes ≡ length setting.now.stations.now)
                 × (length queues.now ≡ length setting.now.stations.now) }
-            ensures { IfSome result (λ it. (it.nodes ≡ length setting.now.stations.now)
-                × (it.millis ≡ setting.now.tick_millis)) }
+            ensures { IfSome result (λ it. (it.nodes ≡ length setting.entry.now.stations.now)
+                × (it.millis ≡ setting.entry.now.tick_millis)) }
         {
             let started = start_threads(scope, setting, room, stop, queues);
             if started.is_some() {

@@ -59,7 +59,7 @@ pub(crate) fn start_timer<'s, E, K: HouseName + Send + Sync, R: Wait + Clock + S
     millis: u32,
     queues: TickQueues<'s, K>,
 ) -> Option<Ticking>
-    ensures nodes { IfSome result (λ it. it.nodes ≡ length queues.senders.now) }
+    ensures nodes { IfSome result (λ it. it.nodes ≡ length queues.entry.senders.now) }
     ensures millis { IfSome result (λ it. it.millis ≡ millis) }
 {
     let ticking = Ticking {
