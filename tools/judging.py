@@ -234,18 +234,35 @@ class Room:
         return found
 
     def copied(self, examples: Iterable[Example], definition: Definition) -> set[Definition]:
-        """The definition, and all that rests on it and that these examples need."""
+        """The definition, and all that rests on it and that these examples need.
+
+        A copy inside a module with parameters cites others of its module without these parameters.
+        So these others are copied with it, and what rests on them.
+        """
         needed = {it for e in examples for clause in e.clauses for it in clause.cited}
         cone = set().union(*(self.closures[it] for it in needed)) if needed else set()
-        return {it for it in cone if definition in self.closures[it]}
+        found, sources = set[Definition](), {definition}
+        while not sources <= found:
+            found |= {it for it in cone if sources & self.closures[it]}
+            sources = {mate for it in found for mate in self.mates_of(it)}
+        return found
+
+    def mates_of(self, definition: Definition) -> set[Definition]:
+        """Those of a definition's module with parameters that it rests on, if it is in one."""
+        begin = self.specs.inside.get(definition)
+        return {
+            it
+            for it in (self.closures[definition] if begin else ())
+            if it[:2] == definition[:2] and self.specs.inside.get(it) == begin
+        }
 
     def trial_of(self, version: Version, number: int, first: int, end: int) -> Trial:
         """A version with some examples that may refuse it: those that need few copies first."""
         found = []
         for example in self.examples:
             names = self.counting(example, version)
-            copied = self.copied([example], version.definition)
-            if names and not any(self.specs.text[it][0].isspace() for it in copied):
+            if names:
+                copied = self.copied([example], version.definition)
                 is_dear = example.path.stem in DEAR
                 by_hand = bool(self.proof_of(example))
                 cost = (is_dear, len(copied), by_hand, len(example.head.text))
@@ -325,9 +342,12 @@ class Room:
         uses = "".join(it.group(0) for it in USES.finditer(specs.files[file].text))
         uses = redirected(uses.replace("pub use", "use"), moved)
         uses += f"use {own}.{{{', '.join(others)}}}\n" if others else ""
-        texts = []
+        texts, begin = [], 0
         for it in here:
             definition = Definition(*file, it)
+            if specs.inside.get(definition, 0) not in (0, begin):
+                texts.append(specs.header_of(definition))
+            begin = specs.inside.get(definition, 0)
             is_wrong = definition == trial.version.definition
             texts.append(trial.version.text if is_wrong else own_lines(specs.text[definition]))
         text = "\n\n".join([f"-- A wrong version.\n{uses}", *texts]) + "\n"

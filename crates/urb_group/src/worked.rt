@@ -26,6 +26,7 @@ pub mod rounds;
 pub mod safe_worlds;
 pub mod shown;
 pub mod starts;
+pub mod steps;
 pub mod stops;
 pub mod survivals;
 pub mod telling;

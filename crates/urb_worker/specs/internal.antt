@@ -12,3 +12,4 @@ pub mod Pulses
 pub mod OwnJobs
 pub mod Doors
 pub mod SeenEvents
+pub mod TurnExamples

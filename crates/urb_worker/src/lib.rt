@@ -84,6 +84,7 @@ mod ticket_places;
 mod tickets;
 mod turn;
 mod turn_stages;
+pub mod worked;
 mod worker_group;
 mod worker_loop;
 mod worker_setting;
