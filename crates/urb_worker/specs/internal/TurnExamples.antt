@@ -1,12 +1,15 @@
 -- Words for the worked examples of workers: stores in memory, and houses of four nodes.
-use Rattle.std.specs.Prelude.{List, [], length, true, ◌∷◌}
+use Rattle.std.specs.Prelude.{Bool, List, None, [], length, true, ℕ, ◌∷◌}
+use Rattle.std.specs.declared.alloc.Global.{Global}
 use Rattle.urb_group.specs.GroupViews.{GroupView}
 use Rattle.urb_group.specs.MemoryStores.{in_memory}
-use Rattle.urb_group.specs.Step.{Event}
+use Rattle.urb_group.specs.Step.{Event, Tick}
 use Rattle.urb_group.specs.World.{World, started}
+use Rattle.urb_group.specs.declared.reply.Reply.{Reply}
 use Rattle.urb_group.specs.internal.Examples.{limits, pending}
+use Rattle.urb_group.specs.internal.Scripts.{message}
 use Rattle.urb_show.specs.Houses.{HouseView}
-use Rattle.urb_show.specs.internal.ReaderExamples.{new_four, shows_none}
+use Rattle.urb_show.specs.internal.ReaderExamples.{knowing, new_four, shows_none}
 use Rattle.urb_show.specs.declared.status.Status.{Status}
 use Rattle.urb_node.specs.Replies.{Done}
 use Rattle.urb_names.specs.Names.{name}
@@ -15,6 +18,14 @@ use Rattle.urb_stable.specs.MemoryStores.{Memory, empty_memory}
 use Rattle.urb_stable.specs.PlacedRecords.{Placed}
 use Rattle.urb_stable.specs.declared.stable.Stable.{Ghosts}
 use Rattle.urb_stable.specs.declared.stable.StoreFault.TheVariants as fault
+use Rattle.urb_worker.specs.ClientDesks.{ClientDeskView}
+use Rattle.urb_worker.specs.Desks.{DeskView}
+use Rattle.urb_worker.specs.Loans.{LoansView}
+use Rattle.urb_worker.specs.Settlings.{NothingNew}
+use Rattle.urb_worker.specs.Views.{FinishedView}
+use Rattle.urb_worker.specs.declared.job.Job.{Job}
+use Rattle.urb_node.specs.NodeViews.{no_view}
+use Rattle.urb_node.specs.Part.{Storing}
 use Rattle.urb_group.specs.declared.state.State.TheVariants as state
 
 -- the ghost values of a store in memory
@@ -74,3 +85,59 @@ failed_disk = record { node = 1; fault = fault.Device }
 -- the status of a new node
 abbrev pub new_status : Status
 new_status = record { state = state.Ready; own = 0; logged = 0 }
+
+-- the result of a job that ran, with this reply and this number of events, and nothing else
+abbrev pub ended : Job → Reply Global → ℕ → FinishedView
+ended job said events = record {
+  job = job;
+  reply = said;
+  status = None;
+  settling = NothingNew;
+  ran = true;
+  events = events;
+  loans = None;
+}
+
+-- two loans of a House whose past is empty
+abbrev pub at_the_opening : LoansView
+at_the_opening =
+    record { first = record { lent = []; back = [] }; last = record { lent = []; back = [] } }
+
+-- a new group of four nodes, with what each holds
+abbrev pub four_views : GroupView
+four_views =
+    record { size = limits 4 10; nodes = no_view ∷ no_view ∷ no_view ∷ no_view ∷ [] }
+
+-- a group that shows no world, although its node 1 holds its first record
+abbrev pub drafts_in_none : GroupView
+drafts_in_none = record {
+  size = limits 4 10;
+  nodes = record no_view { log = name 1 1 ∷ []; state = Storing (pending 1 1) None } ∷ [];
+}
+
+-- the desk of a node at which nothing was seen, after these events
+abbrev pub desk_of : ℕ → List Event → DeskView
+desk_of p past = record { node = p; known = knowing [] [] []; past = past }
+
+-- the desk of node 1 at which nothing was seen yet
+abbrev pub new_desk : DeskView
+new_desk = desk_of 1 []
+
+-- the same desk, once it has seen a tick of node 1
+abbrev pub later_desk : DeskView
+later_desk = record { node = 1; known = knowing [] [] (Tick 1 ∷ []); past = Tick 1 ∷ [] }
+
+-- a client's desk at node 1; the client may crash the node, or may not
+abbrev pub client_desk : Bool → ClientDeskView
+client_desk may_crash = record { desk = new_desk; may_crash = may_crash }
+
+-- a group of four nodes whose node 1 has stored its first message
+abbrev pub stored_four : GroupView
+stored_four = record {
+  size = limits 4 10;
+  nodes = record no_view {
+    pairs = (name 1 1, message 7 1 "") ∷ [];
+    count = 1;
+    acks = (name 1 1, 1) ∷ [];
+  } ∷ [];
+}
