@@ -3,10 +3,10 @@ use Rattle.std.specs.Prelude.{Bool, List, None, [], length, true, ℕ, ◌∷◌
 use Rattle.std.specs.declared.alloc.Global.{Global}
 use Rattle.urb_group.specs.GroupViews.{GroupView}
 use Rattle.urb_group.specs.MemoryStores.{in_memory}
-use Rattle.urb_group.specs.Step.{Event, Tick}
+use Rattle.urb_group.specs.Step.{Commit, Event, Submit, Tick}
 use Rattle.urb_group.specs.World.{World, started}
 use Rattle.urb_group.specs.declared.reply.Reply.{Reply}
-use Rattle.urb_group.specs.internal.Examples.{limits, pending}
+use Rattle.urb_group.specs.internal.Examples.{flagged, limits, pending}
 use Rattle.urb_group.specs.internal.Scripts.{message}
 use Rattle.urb_show.specs.Houses.{HouseView}
 use Rattle.urb_show.specs.internal.ReaderExamples.{knowing, new_four, shows_none}
@@ -102,6 +102,24 @@ ended job said events = record {
 abbrev pub at_the_opening : LoansView
 at_the_opening =
     record { first = record { lent = []; back = [] }; last = record { lent = []; back = [] } }
+
+-- what a receipt of node 1's first record does in a new group of four
+abbrev pub stored_by_four : Done
+stored_by_four = record nothing_released {
+  sent =
+      flagged 0 1 2 1 1 (message 7 1 "") ∷ flagged 0 1 3 1 1 (message 7 1 "")
+      ∷ flagged 0 1 4 1 1 (message 7 1 "") ∷ [];
+}
+
+-- The loans of a turn that stores node 1's first record. Between them node 2 ticks.
+abbrev pub around_a_tick : LoansView
+around_a_tick = record {
+  first = record { lent = []; back = Submit 1 (message 7 1 "") ∷ [] };
+  last = record {
+    lent = Submit 1 (message 7 1 "") ∷ Tick 2 ∷ [];
+    back = Submit 1 (message 7 1 "") ∷ Tick 2 ∷ Commit 1 1 (pending 1 1) ∷ [];
+  };
+}
 
 -- a new group of four nodes, with what each holds
 abbrev pub four_views : GroupView

@@ -16,8 +16,9 @@ ghost use Rattle.urb_worker.specs.WholeTurns.{Does, IsTurn, IsTurnAt, misrouted}
 ghost use Rattle.urb_worker.specs.declared.change.Change.TheVariants as change;
 ghost use Rattle.urb_worker.specs.declared.job.Job.TheVariants as job;
 ghost use Rattle.urb_worker.specs.declared.turn_stages.Stage.TheVariants as stage;
-ghost use Rattle.urb_worker.specs.internal.TurnExamples.{at_the_opening, ended, holding, lying};
-ghost use Rattle.urb_worker.specs.internal.TurnExamples.{memory, new_status, nothing_released};
+ghost use Rattle.urb_worker.specs.internal.TurnExamples.{around_a_tick, at_the_opening, ended, holding};
+ghost use Rattle.urb_worker.specs.internal.TurnExamples.{lying, memory, new_status};
+ghost use Rattle.urb_worker.specs.internal.TurnExamples.{nothing_released, stored_by_four};
 
 /// A turn has begun in a House that some group led to, and it is in a stage that follows.
 pub fn turns_that_have_begun()
@@ -72,6 +73,10 @@ pub fn parts_of_a_turn()
     ensures a_submit_that_is_stored { IsTurnAt memory shows_none 1 (job.Submit 1 7 1 [])
         empty_memory holding
         (ended (job.Submit 1 7 1 []) (reply.Stored nothing_released) 2) }
+    ensures a_pair_that_a_stop_leaves_of_another { IsTurnAt memory new_four 2 (job.Submit 1 7 1 [])
+        empty_memory holding
+        (record (ended (job.Submit 1 7 1 []) (reply.Stored stored_by_four) 2)
+        { loans = Some around_a_tick }) → ⊥ }
 {}
 
 /// A worker does the turn of a job that runs there. It refuses any other job, and its store stays.

@@ -25,6 +25,7 @@ use Rattle.urb_stable.specs.KeptDrafts.{Keeps}
 use Rattle.urb_stable.specs.MemoryStores.{Memory, empty_memory}
 use Rattle.urb_stable.specs.declared.stable.StoreFault.TheVariants as fault
 use Rattle.urb_stable.specs.declared.stable.StoreFault.{StoreFault}
+use Rattle.urb_worker.specs.NodeStores.{IsStoreAfter, LeavesAfter}
 use Rattle.urb_worker.specs.Settlings.{NothingNew}
 use Rattle.urb_worker.specs.Stages.{crash_stage}
 use Rattle.urb_worker.specs.Turns.{Ends, Stores}
@@ -200,3 +201,46 @@ returns-clause-a_missing_node_at_the_opening c t =
 
 pub returns-clause-a_submit_that_is_stored : goal.returns-clause-a_submit_that_is_stored
 returns-clause-a_submit_that_is_stored c = stored_turn
+
+some-none : {A : Type 0} (x : A) (xs : List A) → x ∷ xs ≡ [] → ⊥
+some-none x xs e = cc
+
+-- a stop leaves no pair of node 1 in the store of node 2
+not-left : (past : List Event) → submitted ∷ [] ≡ past → LeavesAfter memory four past 2 holding → ⊥
+unfolding run step
+not-left past is leaves =
+    let left = subst (λ past. LeavesAfter memory four past 2 holding) (sym is) leaves in
+    some-none (pending 1 1) [] ((left tt).may (pending 1 1 ∷ []) ((left tt).only (pending 1 1 ∷ []) refl))
+
+-- node 2's store is empty at the opening
+matches : IsStoreAfter memory four [] 2 empty_memory
+unfolding run
+matches = record {
+  contents = record {
+    contents = λ honest records is. is;
+    left = λ honest. record {
+      certain = [];
+      doubtful = None;
+      only = λ records is. is;
+      may = λ records is. is;
+    };
+    up = λ honest up. (refl, refl);
+    sure = λ up. refl;
+  };
+  lasting = record {
+    left = λ clean. record {
+      certain = [];
+      doubtful = None;
+      only = λ records is. is;
+      may = λ records is. is;
+    };
+    known = λ clean. inl tt;
+  };
+}
+
+pub returns-clause-a_pair_that_a_stop_leaves_of_another : goal.returns-clause-a_pair_that_a_stop_leaves_of_another
+returns-clause-a_pair_that_a_stop_leaves_of_another c t =
+    not-left t.turn.given_back.past t.turn.loans.first_is.back_at
+    (t.leaves four shows_new
+    (subst (λ past. IsStoreAfter memory four past 2 empty_memory) t.turn.loans.first_is.lent_at
+    matches))
