@@ -1,5 +1,5 @@
 -- What is stored at the opening, and what is not.
-use Rattle.std.proofs.Common.{List, [], false, refl, subst, suc, sym, true, zero, ℕ, ◌++◌, ◌∷◌, ◌≡◌}
+use Rattle.std.proofs.Common.{List, [], false, refl, rules, subst, suc, sym, true, zero, ℕ, ◌++◌, ◌∷◌, ◌≡◌}
 use Rattle.urb_group.proofs.steps.Runs.{opened-kept}
 use Rattle.urb_group.specs.Acceptance.{HasStored}
 use Rattle.urb_group.specs.GroupViews.{IsSound, Shows, view_of}
