@@ -26,10 +26,8 @@ pub fn records_that_are_the_same()
     ensures another_message { same_record (pending 1 1) (Pend (name 1 1) (message 7 1 "a")) ≡ false }
     ensures a_pair_and_a_certified_one { same_record (pending 1 1) (certified 1 1) ≡ false }
     ensures two_certified_pairs { same_record (certified 1 1) (certified 1 1) ≡ true }
-    ensures another_name_certified {
-        same_record (certified 1 1) (PendCert (name 1 2) (message 7 1 "")) ≡ false }
-    ensures another_message_certified {
-        same_record (certified 1 1) (PendCert (name 1 1) (message 7 1 "a")) ≡ false }
+    ensures another_name_certified { same_record (certified 1 1) (PendCert (name 1 2) (message 7 1 "")) ≡ false }
+    ensures another_message_certified { same_record (certified 1 1) (PendCert (name 1 1) (message 7 1 "a")) ≡ false }
     ensures two_certificates { same_record (Cert (name 1 1)) (Cert (name 1 1)) ≡ true }
     ensures certificates_of_two_names { same_record (Cert (name 1 1)) (Cert (name 1 2)) ≡ false }
 {}
@@ -69,8 +67,7 @@ pub fn states_of_a_node()
     ensures a_tick { (ticks 3 1 (node_in Ready [])).0 ≡ Sent [] }
     ensures a_second_crash { (crashes 1 (node_in (Down None) [])).0 ≡ Refused refusal.Down }
     ensures a_failure_of_none { (fails 1 (node_in Ready []) Ready).0 ≡ Refused refusal.Stale }
-    ensures a_failure_of_a_node_that_is_down {
-        (fails 1 (node_in (Down None) []) (Down None)).0 ≡ Refused refusal.Down }
+    ensures a_failure_of_a_node_that_is_down { (fails 1 (node_in (Down None) []) (Down None)).0 ≡ Refused refusal.Down }
 {}
 
 /// A new message is drafted, and the same one again is accepted under its name.

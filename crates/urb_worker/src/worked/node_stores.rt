@@ -34,8 +34,7 @@ pub fn stores_of_new_nodes()
     ensures none_that_lies { IsStoreAfter lying four [] 1 empty_memory → ⊥ }
     ensures empty_ones { AreStoresAfter memory four [] 1 (empty_memory ∷ empty_memory ∷ []) }
     ensures not_one_with_a_pair { AreStoresAfter memory four [] 1 (holding ∷ []) → ⊥ }
-    ensures not_the_second_with_a_pair {
-        AreStoresAfter memory four [] 1 (empty_memory ∷ holding ∷ []) → ⊥ }
+    ensures not_the_second_with_a_pair { AreStoresAfter memory four [] 1 (empty_memory ∷ holding ∷ []) → ⊥ }
 {}
 
 /// A stop leaves in a store what it may leave of the node since the node rests.
@@ -76,18 +75,26 @@ pub fn loans_of_a_turn()
         → ⊥ }
     ensures with_a_last_one_before { AreLoans (Some (record { lent = []; back = Tick 1 ∷ [] }))
         (house_of_four []) (house_of_four [])
-        (record { first = record { lent = []; back = Tick 1 ∷ [] };
-        last = record { lent = []; back = [] } }) → ⊥ }
+        (record {
+          first = record { lent = []; back = Tick 1 ∷ [] };
+          last = record { lent = []; back = [] };
+        }) → ⊥ }
     ensures of_another_first_loan { AreLoansOf (house_of_four []) (house_of_four (Tick 1 ∷ []))
         (house_of_four (Tick 1 ∷ [])) (house_of_four (Tick 1 ∷ []))
-        (record { first = record { lent = []; back = [] };
-        last = record { lent = Tick 1 ∷ []; back = Tick 1 ∷ [] } }) → ⊥ }
+        (record {
+          first = record { lent = []; back = [] };
+          last = record { lent = Tick 1 ∷ []; back = Tick 1 ∷ [] };
+        }) → ⊥ }
     ensures of_another_last_loan { AreLoansOf (house_of_four []) (house_of_four [])
         (house_of_four []) (house_of_four (Tick 1 ∷ []))
-        (record { first = record { lent = []; back = [] };
-        last = record { lent = []; back = [] } }) → ⊥ }
+        (record {
+          first = record { lent = []; back = [] };
+          last = record { lent = []; back = [] };
+        }) → ⊥ }
     ensures of_a_past_that_shrank { AreLoansOf (house_of_four []) (house_of_four (Tick 1 ∷ []))
         (house_of_four []) (house_of_four [])
-        (record { first = record { lent = []; back = Tick 1 ∷ [] };
-        last = record { lent = []; back = [] } }) → ⊥ }
+        (record {
+          first = record { lent = []; back = Tick 1 ∷ [] };
+          last = record { lent = []; back = [] };
+        }) → ⊥ }
 {}

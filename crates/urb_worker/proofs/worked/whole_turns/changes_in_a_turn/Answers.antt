@@ -58,7 +58,6 @@ refused-up r p e = cc
 pub returns-clause-a_failure : goal.returns-clause-a_failure
 returns-clause-a_failure c = (fault.Device, refl, λ w shows. absurd (no_world w shows))
 
-
 pub returns-clause-a_failure_of_a_new_node : goal.returns-clause-a_failure_of_a_new_node
 unfolding step
 returns-clause-a_failure_of_a_new_node c (it, is, fails) = refused-down _ _ (fails four shows_new).told

@@ -91,6 +91,5 @@ restarted = (
   tt,
 )
 
-
 pub returns-clause-a_job_that_ran : goal.returns-clause-a_job_that_ran
 returns-clause-a_job_that_ran c = restarted

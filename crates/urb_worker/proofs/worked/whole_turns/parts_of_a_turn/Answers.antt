@@ -172,14 +172,13 @@ down : (r : Result (Unit {0}) Refusal) (group later : GroupView) (again left : H
 unfolding step
 down (Ok done) group later again left new events shows crashes stores ends =
     let said = (subst (λ (it : Stage). Ends again (job.Crash 1) it left
-        (reply.Refused refusal.Down) None NothingNew events) stores.1 ends).1 in cc
+    (reply.Refused refusal.Down) None NothingNew events) stores.1 ends).1 in cc
 down (Err r) group later again left new events shows crashes stores ends =
     let said : reply.Refused refusal.Down ≡ reply.Refused r =
-        (subst (λ (it : Stage). Ends again (job.Crash 1) it left
-        (reply.Refused refusal.Down) None NothingNew events) stores.1 ends).1 in
+    (subst (λ (it : Stage). Ends again (job.Crash 1) it left
+    (reply.Refused refusal.Down) None NothingNew events) stores.1 ends).1 in
     let e : refusal.Down ≡ r = cc in
     down-refused _ _ ((subst (λ r. IsRefused group (Crash 1) r later) (sym e) crashes).0 four shows)
-
 
 pub returns-clause-a_refused_crash_at_the_opening : goal.returns-clause-a_refused_crash_at_the_opening
 unfolding run
@@ -195,7 +194,7 @@ pub returns-clause-a_missing_node_at_the_opening : goal.returns-clause-a_missing
 unfolding run
 returns-clause-a_missing_node_at_the_opening c t =
     let ended = subst (λ (it : Stage). Ends t.lent_again (job.Status 1) it t.left
-        (reply.Refused refusal.BadNode) None NothingNew (0 - t.events)) (asked _ _ _ _ t) t.finishes in
+    (reply.Refused refusal.BadNode) None NothingNew (0 - t.events)) (asked _ _ _ _ t) t.finishes in
     no-status (ended.1 four (subst (λ past. IsLedTo new_four past t.lent_again.group)
     (sym t.loans.last_is.lent_at) t.leads_again four shows_new))
 

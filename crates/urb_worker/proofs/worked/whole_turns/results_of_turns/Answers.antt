@@ -55,7 +55,6 @@ shows_new = record { size = refl; nodes = at }
     at zero = new_node zero
     at (suc before) = new_node (suc before)
 
-
 -- a new group shows a world that keeps the rules
 sound : IsSound new_four
 sound = record { world = four; shows = shows_new; kept = new-kept (limits 4 10) }
@@ -98,7 +97,6 @@ restarted = (
   tt,
 )
 
-
 abbrev state_in : Option Status → Reported
 state_in (Some status) = status.state
 state_in None = state.Storing
@@ -112,12 +110,11 @@ not-down e = let same : state.Down ≡ state.Ready = ap state_in e in other same
 pub returns-clause-a_restart_of_a_ready_node : goal.returns-clause-a_restart_of_a_ready_node
 returns-clause-a_restart_of_a_ready_node c = restarted
 
-
 pub returns-clause-a_node_that_is_down_at_the_opening : goal.returns-clause-a_node_that_is_down_at_the_opening
 unfolding run
 returns-clause-a_node_that_is_down_at_the_opening c (at, old, new, events, first, is, begun, ends, opens, leads, loans) =
     let asked : at ≡ stage.Asking = subst (λ it. Goes it at) begun.5.1 begun.6 in
     let ended = subst (λ it. Ends old (job.Status 1) it new (reply.WentDown 1)
-        (Some (record new_status { state = state.Down })) NothingNew events) asked ends in
+    (Some (record new_status { state = state.Down })) NothingNew events) asked ends in
     not-down (ended.1 four
     (subst (λ past. IsLedTo new_four past old.group) (sym loans.last_is.lent_at) leads four shows_new))
