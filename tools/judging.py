@@ -187,6 +187,11 @@ class Trial:
     searched: set[tuple[str, str, str]] = field(default_factory=set)  # that tactics have to prove
     unread: str = ""
 
+    def clauses_of(self, example: Example) -> set[str]:
+        """The names of the clauses of an example that may refuse the version."""
+        place = (example.path.stem, example.head.name)
+        return {it[2] for it in self.counting if it[:2] == place}
+
     def refusers(self) -> list[str]:
         """The clauses that refuse the version, those first that tactics have to prove.
 
@@ -316,7 +321,7 @@ class Room:
             if unfolding:
                 own = f"#![tactic(auto, unfolding({', '.join(unfolding)}))]\n"
                 head = re.sub(r"^(?=ghost use)", own, head, count=1, flags=re.MULTILINE)
-            bodies = ["\n".join(it.head.lines) + "\n" for it in examples]
+            bodies = [with_clauses(it.head, trial.clauses_of(it)) for it in examples]
             path = self.folder / f"src/worked/wrong{trial.number}_{stem}.rt"
             path.write_text("\n".join([head, *bodies]))
             self.append("src/worked.rt", f"pub mod wrong{trial.number}_{stem};\n")
@@ -359,6 +364,7 @@ class Room:
         self, example: Example, trial: Trial, moved: dict[tuple[str, str, str], str]
     ) -> None:
         proof, stem, name = self.proof_of(example), example.path.stem, example.head.name
+        proof = with_answers(proof, trial.clauses_of(example))
         if proof:
             copy = f"worked.wrong{trial.number}_{stem}.{name}"
             path = self.folder / "proofs" / copy.replace(".", "/") / "Answers.antt"
@@ -418,6 +424,32 @@ def blocks_of(proof: str) -> dict[str, str]:
         if name:
             blocks[name] = blocks.get(name, "") + line + "\n"
     return blocks
+
+
+def with_clauses(head: Head, names: set[str]) -> str:
+    """The lines of an example with these clauses alone. Other clauses would only take time."""
+    marks = [(at, CLAUSE.match(line)) for at, line in enumerate(head.lines)]
+    begins = [(at, mark.group(1)) for at, mark in marks if mark]
+    body = len(head.lines) - 1
+    if not begins or begins[-1][0] == body:
+        return "\n".join(head.lines) + "\n"
+    lines = list(head.lines[: begins[0][0]])
+    for (at, name), end in zip(begins, [*(at for at, _ in begins[1:]), body]):
+        lines += head.lines[at:end] if name in names else ()
+    return "\n".join([*lines, head.lines[body]]) + "\n"
+
+
+def with_answers(proof: str, names: set[str]) -> str:
+    """A proof without the answers for other clauses; empty if it has none for these."""
+    kept, name, answers = [], "", 0
+    for line in proof.splitlines(keepends=True):
+        begin = DECLARATION.match(line)
+        name = begin.group(1) if begin else name
+        is_answer = name.startswith(GOAL)
+        if not is_answer or name[len(GOAL) :] in names:
+            kept.append(line)
+            answers += is_answer
+    return "".join(kept) if answers else ""
 
 
 def resting_on(proof: str, name: str) -> list[str]:

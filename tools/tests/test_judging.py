@@ -113,6 +113,28 @@ class Clauses(JudgingTest):
         return judging.may_refuse(clause, version, self.specs)
 
 
+class Cuts(JudgingTest):
+    """A copy of an example has only the clauses that may refuse the version."""
+
+    def test_of_an_example(self) -> None:
+        text = judging.with_clauses(self.example.head, {"of_none"})
+        self.assertEqual(
+            text.splitlines(),
+            [
+                "pub fn what_is_so()",
+                "    ensures of_none { Good (record { size = 1 }) → ⊥ }",
+                "{}",
+            ],
+        )
+
+    def test_of_a_proof(self) -> None:
+        text = judging.with_answers(PROOF, {"of_none"})
+        self.assertIn("helper = kept", text)
+        self.assertIn("returns-clause-of_none c", text)
+        self.assertNotIn("of_any", text)
+        self.assertEqual(judging.with_answers(PROOF, {"of_the_better"}), "")
+
+
 class Copies(JudgingTest):
     def test_a_moved_name_is_imported_from_its_new_place(self) -> None:
         text = "ghost use Rattle.urb_a.specs.World.{Good, World};\nghost use Rattle.std.x.{y};\n"

@@ -10,7 +10,7 @@ ghost use Rattle.urb_node.specs.declared.answer.Answer.TheVariants as answer;
 ghost use Rattle.urb_stable.specs.declared.stable.StoreFault.TheVariants as fault;
 ghost use Rattle.urb_group.specs.declared.reply.Reply.TheVariants as reply;
 ghost use Rattle.urb_group.specs.declared.state.State.TheVariants as state;
-ghost use Rattle.urb_worker.specs.Changes.{HasChanged, change_by, crash_by, failure_by, return_by};
+ghost use Rattle.urb_worker.specs.Changes.{change_by, crash_by, failure_by, return_by};
 ghost use Rattle.urb_worker.specs.ClientDesks.{is_of_a_crash};
 ghost use Rattle.urb_worker.specs.Counting.{count_of};
 ghost use Rattle.urb_worker.specs.Desks.{IsJobOf, said_of, told_state};

@@ -1,7 +1,7 @@
 //! Worked examples of the end of a turn: what the last event and its results can't be.
 //!
 //! Each of the rows that end in ⊥ breaks one part of what the stage says.
-ghost use Rattle.std.specs.Prelude.{[], ◌∷◌, ◌≡◌, None, Some, Vec};
+ghost use Rattle.std.specs.Prelude.{[], ◌∷◌, None, Some, Vec};
 ghost use Rattle.std.specs.declared.alloc.Global.{Global};
 ghost use Rattle.urb_names.specs.declared.refusal.Refusal.TheVariants as refusal;
 ghost use Rattle.urb_stable.specs.Entries.{Entry};

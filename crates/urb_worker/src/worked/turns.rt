@@ -1,7 +1,7 @@
 //! Worked examples of the beginning of a turn and of its store's part: what neither of them can be.
 //!
 //! Each of the rows that end in ⊥ breaks one part of what the job or the stage says.
-ghost use Rattle.std.specs.Prelude.{[], ◌∷◌, ◌≡◌, None, Some, Vec, ℕ};
+ghost use Rattle.std.specs.Prelude.{[], ◌∷◌, ◌≡◌, Vec, ℕ};
 ghost use Rattle.std.specs.declared.alloc.Global.{Global};
 ghost use Rattle.urb_names.specs.Names.{name};
 ghost use Rattle.urb_names.specs.PacketGrammar.{packet_of};

@@ -1,7 +1,7 @@
 //! Worked examples of whole turns: how they begin and end together, and what a worker does.
 //!
 //! Each of the rows that end in ⊥ breaks one part of a turn.
-ghost use Rattle.std.specs.Prelude.{[], ◌∷◌, ◌≡◌, None, Some, false, true};
+ghost use Rattle.std.specs.Prelude.{[], ◌∷◌, None, Some, false, true};
 ghost use Rattle.urb_names.specs.declared.refusal.Refusal.TheVariants as refusal;
 ghost use Rattle.urb_stable.specs.MemoryStores.{empty_memory};
 ghost use Rattle.urb_group.specs.declared.reply.Reply.TheVariants as reply;

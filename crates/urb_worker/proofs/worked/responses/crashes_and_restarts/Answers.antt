@@ -1,5 +1,5 @@
 -- A crash of a new node.
-use Rattle.std.proofs.Common.{List, [], arith, if◌then◌else◌, refl, subst, suc, zero, ℕ, ◌∷◌, ◌≡◌}
+use Rattle.std.proofs.Common.{[], arith, if◌then◌else◌, refl, subst, suc, zero, ℕ, ◌∷◌, ◌≡◌}
 use Rattle.urb_group.proofs.steps.Runs.{new-kept}
 use Rattle.urb_group.specs.GroupViews.{IsSound, Shows, view_of}
 use Rattle.urb_group.specs.Step.{Crash, run, step, world_after}

@@ -1,12 +1,11 @@
 -- The status of a new node.
 use Rattle.std.proofs.Common.{List, None, Option, Some, [], ap, arith, if◌then◌else◌, length, refl, subst, suc, sym, zero, ℕ, ◌++◌, ◌∷◌, ◌≡◌}
-use Rattle.urb_client.specs.Responses.{Status as HasStatus}
 use Rattle.urb_client.specs.declared.response.NodeState.TheVariants as told
 use Rattle.urb_group.proofs.steps.Runs.{new-kept}
 use Rattle.urb_group.specs.GroupViews.{IsSound, Shows, view_of}
 use Rattle.urb_group.specs.ReportedStates.{state_of}
 use Rattle.urb_group.specs.Step.{Event, run}
-use Rattle.urb_group.specs.World.{World, stored}
+use Rattle.urb_group.specs.World.{stored}
 use Rattle.urb_group.specs.declared.state.State.TheVariants as state
 use Rattle.urb_group.specs.declared.state.State.{State as Reported}
 use Rattle.urb_group.specs.internal.Examples.{limits}

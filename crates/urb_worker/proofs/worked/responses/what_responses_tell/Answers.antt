@@ -1,6 +1,5 @@
 -- What is told of a new node, and of one that has stored its message.
 use Rattle.std.proofs.Common.{List, None, Option, Some, [], ap, arith, false, if◌then◌else◌, length, refl, rules, subst, suc, sym, true, zero, ℕ, ◌++◌, ◌∷◌, ◌≡◌}
-use Rattle.urb_client.specs.Responses.{Status as HasStatus}
 use Rattle.urb_client.specs.declared.response.NodeState.TheVariants as told
 use Rattle.urb_group.proofs.steps.Runs.{new-kept, opened-kept}
 use Rattle.urb_group.specs.Acceptance.{HasStored}

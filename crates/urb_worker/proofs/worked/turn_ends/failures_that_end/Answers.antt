@@ -1,5 +1,5 @@
 -- A new node holds no draft.
-use Rattle.std.proofs.Common.{Err, List, Ok, Result, [], refl, suc, zero, ℕ, ◌≡◌}
+use Rattle.std.proofs.Common.{Err, Ok, Result, [], refl, suc, zero, ℕ, ◌≡◌}
 use Rattle.urb_group.specs.GroupCalls.{GoesDown}
 use Rattle.urb_group.specs.GroupViews.{GroupView, Shows, view_of}
 use Rattle.urb_group.specs.Step.{Fail, step}

@@ -1,5 +1,5 @@
 -- A new node has a status.
-use Rattle.std.proofs.Common.{List, None, Some, [], refl, suc, zero, ℕ, ◌≡◌}
+use Rattle.std.proofs.Common.{None, Some, [], refl, suc, zero, ℕ, ◌≡◌}
 use Rattle.urb_group.specs.GroupViews.{Shows, view_of}
 use Rattle.urb_group.specs.internal.Examples.{limits}
 use Rattle.urb_node.specs.NodeViews.{ShowsNode, no_view}

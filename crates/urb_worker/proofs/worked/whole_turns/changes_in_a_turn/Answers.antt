@@ -5,7 +5,6 @@ use Rattle.urb_group.specs.Step.{step}
 use Rattle.urb_group.specs.World.{World, stored}
 use Rattle.urb_group.specs.internal.Examples.{limits}
 use Rattle.urb_names.specs.Names.{name}
-use Rattle.urb_names.specs.declared.refusal.Refusal.TheVariants as refusal
 use Rattle.urb_names.specs.declared.refusal.Refusal.{Refusal}
 use Rattle.urb_node.specs.NodeViews.{ShowsNode, no_view}
 use Rattle.urb_node.specs.Part.{opened_node}
@@ -13,9 +12,7 @@ use Rattle.urb_node.specs.Replies.{Refused, Up, WentDown}
 use Rattle.urb_show.specs.internal.ReaderExamples.{new_four, shows_none}
 use Rattle.urb_stable.specs.DeliveredLogs.{log}
 use Rattle.urb_stable.specs.Entries.{Entry}
-use Rattle.urb_stable.specs.StableStorage.{refusal_of}
 use Rattle.urb_stable.specs.declared.stable.StoreFault.TheVariants as fault
-use Rattle.urb_stable.specs.declared.stable.StoreFault.{StoreFault}
 use Rattle.urb_worker.specs.internal.TurnExamples.{four}
 use Rattle.urb_worker.proofs.worked.whole_turns.changes_in_a_turn.Goals as goal
 

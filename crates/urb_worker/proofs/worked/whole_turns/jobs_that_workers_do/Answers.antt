@@ -1,14 +1,13 @@
 -- Jobs that run at a worker, and jobs that it refuses.
-use Rattle.std.proofs.Common.{Err, List, None, Ok, [], arith, false, inl, inr, length, refl, subst, suc, sym, true, zero, ℕ, ◌-◌, ◌∷◌, ◌≡◌}
+use Rattle.std.proofs.Common.{Err, List, None, Ok, [], arith, false, inl, inr, length, refl, suc, true, zero, ℕ, ◌-◌, ◌∷◌, ◌≡◌}
 use Rattle.urb_group.proofs.steps.Runs.{new-kept}
-use Rattle.urb_group.specs.GroupViews.{GroupView, IsSound, Shows, view_of}
+use Rattle.urb_group.specs.GroupViews.{IsSound, Shows, view_of}
 use Rattle.urb_group.specs.Step.{Commit, Event, Submit}
 use Rattle.urb_group.specs.World.{World, stored}
 use Rattle.urb_group.specs.declared.reply.Reply.TheVariants as reply
 use Rattle.urb_group.specs.declared.taken.Taken.TheVariants as taken
 use Rattle.urb_group.specs.internal.Examples.{limits, pending}
 use Rattle.urb_names.specs.Names.{name}
-use Rattle.urb_names.specs.declared.refusal.Refusal.TheVariants as refusal
 use Rattle.urb_node.specs.NodeViews.{ShowsNode, no_view}
 use Rattle.urb_node.specs.Part.{opened_node}
 use Rattle.urb_show.specs.Houses.{HouseView}
@@ -16,16 +15,11 @@ use Rattle.urb_show.specs.internal.ReaderExamples.{new_four, shows_none}
 use Rattle.urb_stable.specs.DeliveredLogs.{log}
 use Rattle.urb_stable.specs.Entries.{Entry}
 use Rattle.urb_stable.specs.KeptDrafts.{Keeps}
-use Rattle.urb_stable.specs.MemoryStores.{Memory, empty_memory}
-use Rattle.urb_stable.specs.declared.stable.StoreFault.TheVariants as fault
+use Rattle.urb_stable.specs.MemoryStores.{empty_memory}
 use Rattle.urb_stable.specs.declared.stable.StoreFault.{StoreFault}
-use Rattle.urb_worker.specs.Settlings.{NothingNew}
-use Rattle.urb_worker.specs.Turns.{Ends, Stores}
-use Rattle.urb_worker.specs.Views.{FinishedView}
-use Rattle.urb_worker.specs.WholeTurns.{IsTurn, IsTurnAt}
+use Rattle.urb_worker.specs.WholeTurns.{IsTurnAt}
 use Rattle.urb_worker.specs.declared.job.Job.TheVariants as job
 use Rattle.urb_worker.specs.declared.turn_stages.Stage.TheVariants as stage
-use Rattle.urb_worker.specs.declared.turn_stages.Stage.{Stage}
 use Rattle.urb_worker.specs.internal.TurnExamples.{drafts_in_none, ended, first_of_one, four, holding, house_of, house_of_four, house_of_none, memory, nothing_released}
 use Rattle.urb_worker.proofs.worked.whole_turns.jobs_that_workers_do.Goals as goal
 

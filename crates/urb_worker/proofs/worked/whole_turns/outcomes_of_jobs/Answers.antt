@@ -1,14 +1,11 @@
 -- What comes of a job that ran, and of one that did not.
-use Rattle.std.proofs.Common.{Bool, List, None, Option, Some, [], if◌then◌else◌, refl, subst, suc, sym, zero, ℕ, ◌≡◌}
-use Rattle.std.specs.declared.alloc.Global.{Global}
+use Rattle.std.proofs.Common.{None, Some, [], if◌then◌else◌, refl, subst, suc, zero, ℕ, ◌≡◌}
 use Rattle.urb_group.proofs.steps.Runs.{new-kept}
 use Rattle.urb_group.specs.GroupCalls.{Answers}
 use Rattle.urb_group.specs.GroupViews.{IsSound, Shows, view_of}
 use Rattle.urb_group.specs.ReportedStates.{state_of}
 use Rattle.urb_group.specs.Step.{run}
-use Rattle.urb_group.specs.World.{World}
 use Rattle.urb_group.specs.declared.reply.Reply.TheVariants as reply
-use Rattle.urb_group.specs.declared.reply.Reply.{Reply}
 use Rattle.urb_group.specs.declared.state.State.TheVariants as state
 use Rattle.urb_group.specs.internal.Examples.{limits}
 use Rattle.urb_names.specs.LabelsAndContents.{Limits}
@@ -16,14 +13,12 @@ use Rattle.urb_names.specs.Nodes.{is_node}
 use Rattle.urb_names.specs.declared.refusal.Refusal.TheVariants as refusal
 use Rattle.urb_node.specs.NodeViews.{ShowsNode, no_view}
 use Rattle.urb_node.specs.Part.{State, opened_node}
-use Rattle.urb_show.specs.Houses.{HouseView}
 use Rattle.urb_show.specs.Pasts.{IsLedTo}
 use Rattle.urb_show.specs.internal.ReaderExamples.{new_four}
 use Rattle.urb_worker.specs.Settlings.{NothingNew}
-use Rattle.urb_worker.specs.Turns.{CameOf, Ends, Goes}
+use Rattle.urb_worker.specs.Turns.{CameOf}
 use Rattle.urb_worker.specs.declared.job.Job.TheVariants as job
 use Rattle.urb_worker.specs.declared.turn_stages.Stage.TheVariants as stage
-use Rattle.urb_worker.specs.declared.turn_stages.Stage.{Stage}
 use Rattle.urb_worker.specs.internal.TurnExamples.{four, house_of_four}
 use Rattle.urb_worker.proofs.worked.whole_turns.outcomes_of_jobs.Goals as goal
 

@@ -6,7 +6,6 @@ use Rattle.urb_group.specs.GroupViews.{GroupView, IsSound, Shows, view_of}
 use Rattle.urb_group.specs.Step.{Commit, Crash, Event, Submit, run, step}
 use Rattle.urb_group.specs.World.{World, stored}
 use Rattle.urb_group.specs.declared.reply.Reply.TheVariants as reply
-use Rattle.urb_group.specs.declared.reply.Reply.{Reply}
 use Rattle.urb_group.specs.declared.taken.Taken.TheVariants as taken
 use Rattle.urb_group.specs.internal.Examples.{limits, pending}
 use Rattle.urb_names.specs.Names.{name}
@@ -23,7 +22,6 @@ use Rattle.urb_stable.specs.DeliveredLogs.{log}
 use Rattle.urb_stable.specs.Entries.{Entry}
 use Rattle.urb_stable.specs.KeptDrafts.{Keeps}
 use Rattle.urb_stable.specs.MemoryStores.{Memory, empty_memory}
-use Rattle.urb_stable.specs.declared.stable.StoreFault.TheVariants as fault
 use Rattle.urb_stable.specs.declared.stable.StoreFault.{StoreFault}
 use Rattle.urb_worker.specs.NodeStores.{IsStoreAfter, LeavesAfter}
 use Rattle.urb_worker.specs.Settlings.{NothingNew}

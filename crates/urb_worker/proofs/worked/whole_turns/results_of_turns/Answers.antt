@@ -1,35 +1,28 @@
 -- What comes of a restart and of a status in a new group.
-use Rattle.std.proofs.Common.{Bool, List, None, Option, Some, [], ap, arith, if◌then◌else◌, length, refl, subst, suc, sym, zero, ℕ, ◌∷◌, ◌≡◌}
-use Rattle.std.specs.declared.alloc.Global.{Global}
+use Rattle.std.proofs.Common.{None, Option, Some, [], ap, if◌then◌else◌, refl, subst, suc, sym, zero, ℕ, ◌≡◌}
 use Rattle.urb_group.proofs.steps.Runs.{new-kept}
 use Rattle.urb_group.specs.GroupCalls.{Answers}
 use Rattle.urb_group.specs.GroupViews.{IsSound, Shows, view_of}
 use Rattle.urb_group.specs.ReportedStates.{state_of}
 use Rattle.urb_group.specs.Step.{run}
-use Rattle.urb_group.specs.World.{World, stored}
 use Rattle.urb_group.specs.declared.reply.Reply.TheVariants as reply
-use Rattle.urb_group.specs.declared.reply.Reply.{Reply}
 use Rattle.urb_group.specs.declared.state.State.TheVariants as state
 use Rattle.urb_group.specs.declared.state.State.{State as Reported}
 use Rattle.urb_group.specs.internal.Examples.{limits}
 use Rattle.urb_names.specs.LabelsAndContents.{Limits}
-use Rattle.urb_names.specs.Names.{name}
 use Rattle.urb_names.specs.Nodes.{is_node}
 use Rattle.urb_names.specs.declared.refusal.Refusal.TheVariants as refusal
 use Rattle.urb_node.specs.NodeViews.{ShowsNode, no_view}
 use Rattle.urb_node.specs.Part.{State, opened_node}
-use Rattle.urb_show.specs.Houses.{HouseView}
 use Rattle.urb_show.specs.Pasts.{IsLedTo}
 use Rattle.urb_show.specs.Statuses.{status_of}
 use Rattle.urb_show.specs.declared.status.Status.{Status}
-use Rattle.urb_show.specs.internal.ReaderExamples.{new_four, shows_none}
+use Rattle.urb_show.specs.internal.ReaderExamples.{new_four}
 use Rattle.urb_stable.specs.DeliveredLogs.{log}
-use Rattle.urb_stable.specs.Entries.{Entry}
 use Rattle.urb_worker.specs.Settlings.{NothingNew}
 use Rattle.urb_worker.specs.Turns.{CameOf, Ends, Goes}
 use Rattle.urb_worker.specs.declared.job.Job.TheVariants as job
 use Rattle.urb_worker.specs.declared.turn_stages.Stage.TheVariants as stage
-use Rattle.urb_worker.specs.declared.turn_stages.Stage.{Stage}
 use Rattle.urb_worker.specs.internal.TurnExamples.{four, house_of_four, new_status}
 use Rattle.urb_worker.proofs.worked.whole_turns.results_of_turns.Goals as goal
 

@@ -8,7 +8,6 @@ use Rattle.urb_group.specs.internal.Examples.{limits}
 use Rattle.urb_names.specs.Names.{name}
 use Rattle.urb_node.specs.NodeViews.{ShowsNode, no_view}
 use Rattle.urb_node.specs.Part.{opened_node}
-use Rattle.urb_show.specs.Pasts.{IsLedTo}
 use Rattle.urb_show.specs.internal.ReaderExamples.{new_four, shows_none}
 use Rattle.urb_stable.specs.DeliveredLogs.{log}
 use Rattle.urb_stable.specs.Entries.{Entry}

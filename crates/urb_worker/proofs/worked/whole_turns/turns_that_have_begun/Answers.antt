@@ -1,12 +1,11 @@
 -- A status and a crash that have begun.
-use Rattle.std.proofs.Common.{Bool, Err, List, None, Ok, Result, Some, [], false, if◌then◌else◌, refl, subst, suc, sym, true, zero, ℕ, ◌≡◌}
+use Rattle.std.proofs.Common.{Bool, Err, Ok, Result, [], false, if◌then◌else◌, refl, subst, suc, sym, true, zero, ℕ, ◌≡◌}
 use Rattle.urb_group.proofs.steps.Runs.{new-kept}
 use Rattle.urb_group.specs.GroupCalls.{GoesDown, IsRefused}
 use Rattle.urb_group.specs.GroupViews.{GroupView, IsSound, Shows, view_of}
 use Rattle.urb_group.specs.Step.{Crash, run, step, world_after}
 use Rattle.urb_group.specs.World.{World}
 use Rattle.urb_group.specs.declared.reply.Reply.TheVariants as reply
-use Rattle.urb_group.specs.declared.reply.Reply.{Reply}
 use Rattle.urb_group.specs.internal.Examples.{limits}
 use Rattle.urb_names.specs.Nodes.{is_node}
 use Rattle.urb_names.specs.declared.refusal.Refusal.TheVariants as refusal
@@ -20,7 +19,6 @@ use Rattle.urb_show.specs.internal.ReaderExamples.{new_four}
 use Rattle.urb_worker.specs.Stages.{crash_stage}
 use Rattle.urb_worker.specs.Turns.{Goes}
 use Rattle.urb_worker.specs.declared.turn_stages.Stage.TheVariants as stage
-use Rattle.urb_worker.specs.declared.turn_stages.Stage.{Stage}
 use Rattle.urb_worker.specs.internal.TurnExamples.{four, house_of_four}
 use Rattle.urb_worker.proofs.worked.whole_turns.turns_that_have_begun.Goals as goal
 
