@@ -40,6 +40,7 @@ IMPORT = re.compile(
 SIZE = re.compile(r"\blimits (\d+) ")
 LONG = re.compile(r"\bfilled \d+ \d+ \d{4}")  # a payload of over 1,000 bytes
 GOAL = "returns-clause-"
+SECOND = "    ensures nothing_else { Unit {0} }"
 DECLARATION = re.compile(r"(?:pub |abbrev )*([^\W\d][\w-]*) :(?: |$)")
 IN_PROOF = re.compile(
     r"^(?:\./)?proofs/worked/wrong(\d+)_(\w+)/(\w+)/Answers\.antt:\d+:\d+: error: `([^`]+)`"
@@ -436,6 +437,8 @@ def with_clauses(head: Head, names: set[str]) -> str:
     lines = list(head.lines[: begins[0][0]])
     for (at, name), end in zip(begins, [*(at for at, _ in begins[1:]), body]):
         lines += head.lines[at:end] if name in names else ()
+    if len(names) == 1:  # a lone clause would have no name in what the prover says
+        lines.append(SECOND)
     return "\n".join([*lines, head.lines[body]]) + "\n"
 
 

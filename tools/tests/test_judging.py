@@ -123,9 +123,12 @@ class Cuts(JudgingTest):
             [
                 "pub fn what_is_so()",
                 "    ensures of_none { Good (record { size = 1 }) → ⊥ }",
+                judging.SECOND,
                 "{}",
             ],
         )
+        text = judging.with_clauses(self.example.head, {"of_none", "of_any"})
+        self.assertEqual(text.count("ensures"), 2)
 
     def test_of_a_proof(self) -> None:
         text = judging.with_answers(PROOF, {"of_none"})

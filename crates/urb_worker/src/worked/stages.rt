@@ -15,6 +15,7 @@ ghost use Rattle.urb_worker.specs.ClientDesks.{is_of_a_crash};
 ghost use Rattle.urb_worker.specs.Counting.{count_of};
 ghost use Rattle.urb_worker.specs.Desks.{IsJobOf, said_of, told_state};
 ghost use Rattle.urb_worker.specs.Jobs.{runs_at};
+ghost use Rattle.urb_worker.specs.ServedStores.{numbers_from};
 ghost use Rattle.urb_worker.specs.Settlings.{NothingNew, OutOfMemory, Settles};
 ghost use Rattle.urb_worker.specs.Stages.{fail_reply, is_stored, restart_stage, state_reply};
 ghost use Rattle.urb_worker.specs.declared.change.Change.TheVariants as change;
@@ -28,6 +29,7 @@ pub fn jobs_and_workers()
     ensures a_crash_of_another { runs_at 1 (job.Crash 2) ≡ true }
     ensures a_restart_of_another { runs_at 1 (job.Restart 2) ≡ false }
     ensures a_restart { runs_at 1 (job.Restart 1) ≡ true }
+    ensures a_worker_for_each_node { numbers_from 1 3 ≡ 1 ∷ 2 ∷ 3 ∷ [] }
 {}
 
 /// A job is what a request asks if all its parts are the request's.
