@@ -47,6 +47,7 @@ MODULE = r"Rattle\.(\w+)\.specs\.((?:internal\.)?[A-Z]\w*)"
 IMPORTS = re.compile(rf"^ *(?:ghost )?use {MODULE}\.\{{([^}}]*)\}}", re.MULTILINE)
 ALIAS = re.compile(rf"^ *(?:ghost )?use {MODULE} as (\w+)", re.MULTILINE)
 HEADER = re.compile(r"^ *module _ .*?where", re.MULTILINE | re.DOTALL)
+NAMELESS = re.compile(r"module _ ")
 CONSTRUCTOR = re.compile(r"\s+([^\W\d][\w']*) : ")
 ITEM = re.compile(r"(pub(?:\(\w+\))? )?(?:unsafe )?(impl|trait|struct|enum|fn)\b(.*)")
 VIEW = re.compile(r"\s+ghost (?!invariant\b)\w+ = \{")
@@ -94,6 +95,8 @@ class Specs:
         self.files: dict[tuple[str, str], SpecFile] = {}
         self.text: dict[Definition, str] = {}
         self.place: dict[Definition, str] = {}
+        # The line at which a nameless module begins, for the definitions inside one.
+        self.inside: dict[Definition, int] = {}
         self.made_by: dict[tuple[str, str, str], Definition] = {}
         for path in tree.specs():
             if path.stem not in ("Lib", "internal"):
@@ -107,11 +110,15 @@ class Specs:
         text = path.read_text()
         lines = text.splitlines()
         found = sentences_of(path)
-        ends = [it.line for it in found[1:]] + [len(lines) + 1]
+        nameless = [at for at, line in enumerate(lines, 1) if NAMELESS.match(line)]
+        begins = sorted([it.line for it in found] + nameless) + [len(lines) + 1]
         names = {}
-        for it, end in zip(found, ends):
+        for it in found:
             definition = names[it.name] = Definition(crate, module, it.name)
+            end = next(at for at in begins if at > it.line)
             body = without_comments("\n".join(lines[it.line - 1 : end - 1]), "--")
+            if body[0].isspace():
+                self.inside[definition] = max(at for at in nameless if at < it.line)
             self.text[definition] = body
             self.place[definition] = f"{self.tree.name_of(path)}:{it.line}"
             if is_data(body):
@@ -120,6 +127,14 @@ class Specs:
                         self.made_by[crate, module, constructor.group(1)] = definition
         headers = " ".join(HEADER.findall(without_comments(text, "--")))
         self.files[crate, module] = SpecFile(text, names, headers)
+
+    def header_of(self, definition: Definition) -> str:
+        """The first lines of the nameless module that has a definition; empty if none has it."""
+        if definition not in self.inside:
+            return ""
+        lines = self.files[definition[:2]].text.splitlines()[self.inside[definition] - 1 :]
+        end = next(at for at, line in enumerate(lines) if line.rstrip().endswith("where"))
+        return "\n".join(lines[: end + 1])
 
     def named(self, crate: str, module: str, name: str) -> Definition | None:
         """The definition of this name in a module, or the one whose constructor has this name."""

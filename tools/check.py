@@ -23,6 +23,7 @@ from tools.checks import (
     outlets,
     prose,
     sources,
+    twins,
     types,
     written,
 )
@@ -81,6 +82,7 @@ CHECKS: tuple[Callable[[Tree], Iterable[Misfit]], ...] = (
     limits.stated_limits,
     written.written_limits,
     types.names_of_types,
+    twins.no_twins,
     memory.refusals_from_nothing,
     files.changes_of_files,
     outlets.sends_and_reports,

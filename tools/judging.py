@@ -40,6 +40,7 @@ IMPORT = re.compile(
 SIZE = re.compile(r"\blimits (\d+) ")
 LONG = re.compile(r"\bfilled \d+ \d+ \d{4}")  # a payload of over 1,000 bytes
 GOAL = "returns-clause-"
+SECOND = "    ensures nothing_else { Unit {0} }"
 DECLARATION = re.compile(r"(?:pub |abbrev )*([^\W\d][\w-]*) :(?: |$)")
 IN_PROOF = re.compile(
     r"^(?:\./)?proofs/worked/wrong(\d+)_(\w+)/(\w+)/Answers\.antt:\d+:\d+: error: `([^`]+)`"
@@ -187,6 +188,11 @@ class Trial:
     searched: set[tuple[str, str, str]] = field(default_factory=set)  # that tactics have to prove
     unread: str = ""
 
+    def clauses_of(self, example: Example) -> set[str]:
+        """The names of the clauses of an example that may refuse the version."""
+        place = (example.path.stem, example.head.name)
+        return {it[2] for it in self.counting if it[:2] == place}
+
     def refusers(self) -> list[str]:
         """The clauses that refuse the version, those first that tactics have to prove.
 
@@ -234,18 +240,35 @@ class Room:
         return found
 
     def copied(self, examples: Iterable[Example], definition: Definition) -> set[Definition]:
-        """The definition, and all that rests on it and that these examples need."""
+        """The definition, and all that rests on it and that these examples need.
+
+        A copy inside a module with parameters cites others of its module without these parameters.
+        So these others are copied with it, and what rests on them.
+        """
         needed = {it for e in examples for clause in e.clauses for it in clause.cited}
         cone = set().union(*(self.closures[it] for it in needed)) if needed else set()
-        return {it for it in cone if definition in self.closures[it]}
+        found, sources = set[Definition](), {definition}
+        while not sources <= found:
+            found |= {it for it in cone if sources & self.closures[it]}
+            sources = {mate for it in found for mate in self.mates_of(it)}
+        return found
+
+    def mates_of(self, definition: Definition) -> set[Definition]:
+        """Those of a definition's module with parameters that it rests on, if it is in one."""
+        begin = self.specs.inside.get(definition)
+        return {
+            it
+            for it in (self.closures[definition] if begin else ())
+            if it[:2] == definition[:2] and self.specs.inside.get(it) == begin
+        }
 
     def trial_of(self, version: Version, number: int, first: int, end: int) -> Trial:
         """A version with some examples that may refuse it: those that need few copies first."""
         found = []
         for example in self.examples:
             names = self.counting(example, version)
-            copied = self.copied([example], version.definition)
-            if names and not any(self.specs.text[it][0].isspace() for it in copied):
+            if names:
+                copied = self.copied([example], version.definition)
                 is_dear = example.path.stem in DEAR
                 by_hand = bool(self.proof_of(example))
                 cost = (is_dear, len(copied), by_hand, len(example.head.text))
@@ -299,7 +322,7 @@ class Room:
             if unfolding:
                 own = f"#![tactic(auto, unfolding({', '.join(unfolding)}))]\n"
                 head = re.sub(r"^(?=ghost use)", own, head, count=1, flags=re.MULTILINE)
-            bodies = ["\n".join(it.head.lines) + "\n" for it in examples]
+            bodies = [with_clauses(it.head, trial.clauses_of(it)) for it in examples]
             path = self.folder / f"src/worked/wrong{trial.number}_{stem}.rt"
             path.write_text("\n".join([head, *bodies]))
             self.append("src/worked.rt", f"pub mod wrong{trial.number}_{stem};\n")
@@ -325,9 +348,12 @@ class Room:
         uses = "".join(it.group(0) for it in USES.finditer(specs.files[file].text))
         uses = redirected(uses.replace("pub use", "use"), moved)
         uses += f"use {own}.{{{', '.join(others)}}}\n" if others else ""
-        texts = []
+        texts, begin = [], 0
         for it in here:
             definition = Definition(*file, it)
+            if specs.inside.get(definition, 0) not in (0, begin):
+                texts.append(specs.header_of(definition))
+            begin = specs.inside.get(definition, 0)
             is_wrong = definition == trial.version.definition
             texts.append(trial.version.text if is_wrong else own_lines(specs.text[definition]))
         text = "\n\n".join([f"-- A wrong version.\n{uses}", *texts]) + "\n"
@@ -339,6 +365,7 @@ class Room:
         self, example: Example, trial: Trial, moved: dict[tuple[str, str, str], str]
     ) -> None:
         proof, stem, name = self.proof_of(example), example.path.stem, example.head.name
+        proof = with_answers(proof, trial.clauses_of(example))
         if proof:
             copy = f"worked.wrong{trial.number}_{stem}.{name}"
             path = self.folder / "proofs" / copy.replace(".", "/") / "Answers.antt"
@@ -398,6 +425,34 @@ def blocks_of(proof: str) -> dict[str, str]:
         if name:
             blocks[name] = blocks.get(name, "") + line + "\n"
     return blocks
+
+
+def with_clauses(head: Head, names: set[str]) -> str:
+    """The lines of an example with these clauses alone. Other clauses would only take time."""
+    marks = [(at, CLAUSE.match(line)) for at, line in enumerate(head.lines)]
+    begins = [(at, mark.group(1)) for at, mark in marks if mark]
+    body = len(head.lines) - 1
+    if not begins or begins[-1][0] == body:
+        return "\n".join(head.lines) + "\n"
+    lines = list(head.lines[: begins[0][0]])
+    for (at, name), end in zip(begins, [*(at for at, _ in begins[1:]), body]):
+        lines += head.lines[at:end] if name in names else ()
+    if len(names) == 1:  # a lone clause would have no name in what the prover says
+        lines.append(SECOND)
+    return "\n".join([*lines, head.lines[body]]) + "\n"
+
+
+def with_answers(proof: str, names: set[str]) -> str:
+    """A proof without the answers for other clauses; empty if it has none for these."""
+    kept, name, answers = [], "", 0
+    for line in proof.splitlines(keepends=True):
+        begin = DECLARATION.match(line)
+        name = begin.group(1) if begin else name
+        is_answer = name.startswith(GOAL)
+        if not is_answer or name[len(GOAL) :] in names:
+            kept.append(line)
+            answers += is_answer
+    return "".join(kept) if answers else ""
 
 
 def resting_on(proof: str, name: str) -> list[str]:

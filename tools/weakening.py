@@ -168,6 +168,12 @@ def split_at(text: str, sign: str) -> list[str]:
     return [*parts, text[begin:]]
 
 
+def test_in(text: str) -> tuple[str, str, str]:
+    """The test of a choice, with what stands before and after it; of another text, all of it."""
+    choice = re.fullmatch(r"(\s*if )(.+?)(\sthen .+)", text, re.DOTALL)
+    return (choice.group(1), choice.group(2), choice.group(3)) if choice else ("", text, "")
+
+
 def is_binder(part: str) -> bool:
     """Whether a part of a product names a value of some type: `(x : T)`."""
     if not re.match(r"\([^():]+ : ", part):
@@ -246,13 +252,15 @@ class Rules:
         for at, case in enumerate(block.equations):
             *premises, conclusion = split_at(case.right, "→")
             for sign, nothing, need in (("×", "Unit {0}", ()), ("&&", "true", ("true",))):
-                parts = split_at(conclusion, sign) if sign == "&&" or block.is_claim else []
+                is_cut = sign == "&&" or block.is_claim
+                begin, claim, end = test_in(conclusion) if sign == "&&" else ("", conclusion, "")
+                parts = split_at(claim, sign) if is_cut else []
                 for place, part in enumerate(parts if len(parts) > 1 else ()):
                     if is_binder(part.strip()):
                         continue
                     what = f"without {shown(part)}{in_case(block, at)}"
-                    right = "→".join([*premises, replaced(parts, place, nothing, sign)])
-                    yield "unit", what, with_case(block, at, right), need
+                    changed = begin + replaced(parts, place, nothing, sign) + end
+                    yield "unit", what, with_case(block, at, "→".join([*premises, changed])), need
 
     def premise(self, definition: Definition, block: Block) -> Iterator[Change]:
         """A premise is left out."""

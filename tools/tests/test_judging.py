@@ -1,6 +1,7 @@
 """Wrong versions of definitions, tried on worked examples."""
 from __future__ import annotations
 
+import tempfile
 import textwrap
 import unittest
 from pathlib import Path
@@ -112,6 +113,31 @@ class Clauses(JudgingTest):
         return judging.may_refuse(clause, version, self.specs)
 
 
+class Cuts(JudgingTest):
+    """A copy of an example has only the clauses that may refuse the version."""
+
+    def test_of_an_example(self) -> None:
+        text = judging.with_clauses(self.example.head, {"of_none"})
+        self.assertEqual(
+            text.splitlines(),
+            [
+                "pub fn what_is_so()",
+                "    ensures of_none { Good (record { size = 1 }) → ⊥ }",
+                judging.SECOND,
+                "{}",
+            ],
+        )
+        text = judging.with_clauses(self.example.head, {"of_none", "of_any"})
+        self.assertEqual(text.count("ensures"), 2)
+
+    def test_of_a_proof(self) -> None:
+        text = judging.with_answers(PROOF, {"of_none"})
+        self.assertIn("helper = kept", text)
+        self.assertIn("returns-clause-of_none c", text)
+        self.assertNotIn("of_any", text)
+        self.assertEqual(judging.with_answers(PROOF, {"of_the_better"}), "")
+
+
 class Copies(JudgingTest):
     def test_a_moved_name_is_imported_from_its_new_place(self) -> None:
         text = "ghost use Rattle.urb_a.specs.World.{Good, World};\nghost use Rattle.std.x.{y};\n"
@@ -132,6 +158,92 @@ class Copies(JudgingTest):
         own, low = Definition("urb_a", "World", "Good"), Definition("urb_low", "Lists", "ends")
         self.assertEqual(judging.foreign_lemmas(proof, own, "urb_a"), {"kept"})
         self.assertEqual(judging.foreign_lemmas(proof, low, "urb_a"), {"kept", "ends"})
+
+
+STORES = """
+    -- Stores.
+    use Rattle.std.specs.Prelude.{◌≡◌, ℕ}
+    use Rattle.urb_a.specs.World.{World}
+
+    -- a number
+    abbrev pub first : ℕ
+    first = 1
+
+    module _ {S : Type 0} (g : S → ℕ) where
+      -- the store is whole
+      pub record IsWhole (store : S) : Type 0 where
+        pub count : g store ≡ 1
+
+      -- the store is whole after a call
+      pub record IsKept (before after : S) : Type 0 where
+        pub before : IsWhole before
+        pub same : after ≡ before
+
+    module _ {S : Type 0} (g : S → ℕ) where
+      -- all is kept
+      abbrev pub AllKept : S → Type 0
+      AllKept store = IsKept g store store
+"""
+
+WORKED_STORES = """
+    //! Examples.
+    ghost use Rattle.urb_a.specs.Stores.{AllKept, IsKept};
+
+    /// What is kept.
+    pub fn what_is_kept()
+        ensures of_two { IsKept double 1 2 → ⊥ }
+        ensures of_all { AllKept double 2 → ⊥ }
+    {}
+"""
+
+
+class Modules(TreeTest):
+    """Definitions inside a module with parameters."""
+
+    def setUp(self) -> None:
+        self.files = self.tree(
+            {
+                "crates/urb_a/specs/World.antt": WORLD,
+                "crates/urb_a/specs/Stores.antt": STORES,
+                "crates/urb_a/specs/internal.antt": "",
+                "crates/urb_a/specs/internal/Words.antt": "-- Words.\n",
+                "crates/urb_a/src/worked.rt": "//! Examples.\n",
+                "crates/urb_a/src/worked/stores.rt": WORKED_STORES,
+                "crates.txt": "urb_a:\n",
+                "HANDLES": "Handles allowed: none.\n",
+            }
+        )
+        folder = tempfile.TemporaryDirectory()
+        self.addCleanup(folder.cleanup)
+        self.room = judging.Room(self.files, "urb_a", Path(folder.name))
+
+    def named(self, name: str) -> Definition:
+        return Definition("urb_a", "Stores", name)
+
+    def test_a_text_ends_before_the_next_module(self) -> None:
+        specs = self.room.specs
+        self.assertEqual(specs.text[self.named("first")].strip().splitlines()[-1], "first = 1")
+        self.assertEqual(specs.header_of(self.named("first")), "")
+        header = "module _ {S : Type 0} (g : S → ℕ) where"
+        self.assertEqual(specs.header_of(self.named("IsKept")), header)
+
+    def test_what_a_copy_cites_in_its_module_is_copied_with_it(self) -> None:
+        copied = self.room.copied(self.room.examples, self.named("IsKept"))
+        self.assertEqual(copied, {self.named(it) for it in ("IsWhole", "IsKept", "AllKept")})
+
+    def test_a_copy_stands_in_a_module_with_the_same_parameters(self) -> None:
+        versions = Rules(self.room.specs).versions_of(self.named("IsKept"))
+        version = next(it for it in versions if it.what == "`same` says nothing")
+        functions = self.room.write(self.room.trial_of(version, 3, 0, 2))
+        self.assertEqual(functions, ["urb_a::worked::wrong3_stores::what_is_kept"])
+        text = (self.room.folder / "specs/internal/Wrong3_0.antt").read_text()
+        header = "module _ {S : Type 0} (g : S → ℕ) where"
+        places = [text.index(it) for it in (header, "IsWhole (store", "IsKept (before")]
+        places += [text.rindex(header), text.index("AllKept :")]
+        self.assertEqual(places, sorted(places))
+        self.assertEqual(text.count(header), 2)
+        self.assertIn("    pub same : Unit {0}\n", text)
+        self.assertIn("Stores.{first}\n", text)
 
 
 class Reports(JudgingTest):

@@ -57,6 +57,10 @@ WORLD = """
     abbrev pub AllKnown : World → Type 0
     AllKnown w = (p : ℕ) → IsKnown w p → (k : Option ℕ) × (p ≡ p) × IsKnown w p
 
+    -- one of two, if both are set
+    abbrev pub one_of : Bool → Bool → Bool → Bool
+    one_of a b c = if a && b then c else a
+
     -- a node's log and its number
     abbrev pub Shown : Type 0
     Shown = List ℕ × ℕ
@@ -108,6 +112,12 @@ class Making(WeakeningTest):
         self.assertEqual(
             [it.rpartition("= ")[2] for it in self.texts("both", "unit")],
             ["true && b", "a && true"],
+        )
+
+    def test_a_part_of_the_test_of_a_choice(self) -> None:
+        self.assertEqual(
+            [it.rpartition("c = ")[2] for it in self.texts("one_of", "unit")],
+            ["if true && b then c else a", "if a && true then c else a"],
         )
 
     def test_a_part_of_what_premises_lead_to(self) -> None:

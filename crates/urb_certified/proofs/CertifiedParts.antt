@@ -14,10 +14,10 @@ use Rattle.urb_names.proofs.SameNames.{same_name-true}
 use Rattle.urb_names.proofs.ElementPlaces.{any_insert, names_ordered, rising_placed}
 use Rattle.urb_certified.specs.Parts.{all_names}
 use Rattle.urb_certified.specs.internal.PartInvariant.{IsJoined, IsParts, is_left, low_of}
-use Rattle.urb_certified.proofs.RisingSets.{both_ways}
 use Rattle.urb_certified.proofs.NameOrder.{names_in_order}
 use Rattle.urb_certified.proofs.BinarySearches.{filter_all, filter_has, filter_rises}
 use Rattle.urb_certified.proofs.PartMembers.{IsInRows, all_above, all_low, all_true}
+use Rattle.urb_names.proofs.TruthValues.{both_ways}
 
 -- a name of the sender that stays above has a number past the run's end
 pub left_behind : (s end : ℕ) (y : Label) → y.sender ≡ s → is_left s end y ≡ true → end < y.seq

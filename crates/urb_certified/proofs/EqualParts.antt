@@ -6,10 +6,11 @@ use Rattle.urb_names.specs.Names.{has_name, name_lt, same_name}
 use Rattle.urb_names.specs.Release.{beginning}
 use Rattle.urb_certified.specs.Parts.{all_names}
 use Rattle.urb_certified.specs.internal.PartInvariant.{IsParts, low_of}
-use Rattle.urb_certified.proofs.RisingSets.{both_ways, rising_same}
+use Rattle.urb_certified.proofs.RisingSets.{rising_same}
 use Rattle.urb_certified.proofs.NameOrder.{names_in_order}
 use Rattle.urb_certified.proofs.PartMembers.{IsInRows, all_above, all_true}
 use Rattle.urb_certified.proofs.SenderReaches.{held, held_has, reach_low}
+use Rattle.urb_names.proofs.TruthValues.{both_ways}
 
 same_numbers : (xs ys : List ℕ) → length xs ≡ length ys → ((i : ℕ) → get_or xs i 0 ≡ get_or ys i 0)
     → xs ≡ ys

@@ -8,9 +8,9 @@ use Rattle.urb_names.specs.Nodes.{numbers_from}
 use Rattle.urb_names.specs.Names.{has_name, name, names, same_name}
 use Rattle.urb_names.proofs.SameNames.{same_name-true}
 use Rattle.urb_names.proofs.LogRows.{has-row}
-use Rattle.urb_certified.proofs.RisingSets.{both_ways}
 use Rattle.urb_certified.specs.Parts.{all_names, rows_from}
 use Rattle.urb_certified.specs.internal.PartInvariant.{low_of}
+use Rattle.urb_names.proofs.TruthValues.{both_ways}
 
 -- a name in the row of k numbers from a on
 pub record IsInRow (s a k : ℕ) (y : Label) : Type 0 where

@@ -8,12 +8,6 @@ use Rattle.urb_names.proofs.ElementPlaces.{IsStrictOrder, any_insert, rising_pla
 use Rattle.urb_certified.specs.ListSets.{set_of}
 use Rattle.urb_certified.specs.internal.StrictOrders.{IsOrder}
 
--- two answers are equal if each follows from the other
-pub both_ways : (a b : Bool) → (a ≡ true → b ≡ true) → (b ≡ true → a ≡ true) → a ≡ b
-both_ways true b f g = sym (f refl)
-both_ways false true f g = g refl
-both_ways false false f g = refl
-
 module _ {X : Type 0} (before same : X → X → Bool) (laws : IsOrder before same) where
   strict_order : IsStrictOrder before same
   strict_order = record { transitive = laws.transitive; one_way = laws.one_way }

@@ -7,7 +7,7 @@ use Rattle.std.specs.List.{list_all}
 use Rattle.std.specs.Char.{digit_value}
 use Rattle.std.specs.Str.Parse.{AllDigits, IsNumeral, ParsesUnsigned, digits_value}
 use Rattle.std.specs.Str.Parse.{without_leading_plus}
-use Rattle.std.proofs.lemmas.Bool.{leb-true, lt-ltb, ltb-true}
+use Rattle.std.proofs.lemmas.Bool.{and_parts, leb-true, lt-ltb, ltb-true}
 use Rattle.clap.specs.Words.{Text, one_text, rows_of}
 use Rattle.clap.proofs.WalkLemmas.{one_text-rows}
 use Rattle.clap.specs.Matches.{ReadsOne}
@@ -18,14 +18,10 @@ digits_pass : (ds : List ℕ) → AllDigits 10 ds → list_all (λ d. nat_lt (di
 digits_pass [] h = refl
 digits_pass (d ∷ ds) h = rw (lt-ltb (digit_value d) 10 h.0) (digits_pass ds h.1)
 
-both : (a b : Bool) → (a && b) ≡ true → (a ≡ true) × (b ≡ true)
-both true b e = (refl, e)
-both false b e = absurd cc
-
 digits_from : (ds : List ℕ) → list_all (λ d. nat_lt (digit_value d) 10) ds ≡ true → AllDigits 10 ds
 digits_from [] e = tt
 digits_from (d ∷ ds) e =
-    let parts = both _ _ e in
+    let parts = and_parts _ _ e in
     (ltb-true _ _ parts.0, digits_from ds parts.1)
 
 -- a numeral passes the test, and whatever passes is a numeral
@@ -34,7 +30,7 @@ numeral_passes ds h = rw (lt-ltb 0 (length ds) h.0) (digits_pass ds h.1)
 
 numeral_from : (ds : List ℕ) → is_decimal ds ≡ true → IsNumeral 10 ds
 numeral_from ds e =
-    let parts = both _ _ e in
+    let parts = and_parts _ _ e in
     (ltb-true _ _ parts.0, digits_from ds parts.1)
 
 -- the number that was read, if it is within these bounds
@@ -63,7 +59,7 @@ number_read G low high text None reads only fits =
     go : (a b : Bool) → is_decimal ds ≡ a → (nat_le low value && nat_le value high) ≡ b
         → None ≡ number_in low high text
     go true true d e =
-        let small : value ≤ high = leb-true _ _ (both _ _ e).1 in
+        let small : value ≤ high = leb-true _ _ (and_parts _ _ e).1 in
         absurd (only text (Err reads.0) reads.1 (numeral_from ds d, omega arith))
     go true false d e = rw (d, e) refl
     go false b d e = rw d refl

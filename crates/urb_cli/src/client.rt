@@ -11,6 +11,7 @@ pub(crate) mod follow;
 pub(crate) mod follow_turn;
 pub(crate) mod node_address;
 pub(crate) mod node_caller;
+pub(crate) mod patient_stream;
 pub(crate) mod print;
 pub(crate) mod printed;
 pub(crate) mod publish;

@@ -1,7 +1,7 @@
 -- If bytes are read as a request, they are its encoding; and the encoding of a request is read as
 -- that request.
 use Rattle.std.proofs.Common.{◌≡◌, ℕ, ◌<◌, ◌≤◌, true, false, cond, Bool, List, [], ◌∷◌, ◌++◌}
-use Rattle.std.proofs.Common.{length, drop, Result, Ok, Err, refl, sym, ap, subst, ◌∙◌, arith}
+use Rattle.std.proofs.Common.{length, drop, Result, Ok, Err, Option, Some, None, refl, sym, ap, subst, ◌∙◌, arith}
 use Rattle.std.proofs.Common.{drop-cons}
 use Rattle.std.specs.Prelude.{nat_lt, ◌==◌, slice_index, IfOk}
 use Rattle.std.proofs.lemmas.Bool.{eqb-true, ltb-false}
@@ -11,7 +11,10 @@ use Rattle.std.proofs.Common.{append-nil}
 use Rattle.urb_client.specs.declared.format.TheConstants.{MOST_ENTRIES}
 use Rattle.byteorder.specs.Endian.{big_number, big_bytes}
 use Rattle.urb_names.specs.declared.refusal.Refusal.{Refusal}
-use Rattle.urb_client.specs.Requests.{Asked, Submit, Read, Status, Crash, Restart, Wait, IsAsked}
+use Rattle.urb_client.specs.declared.request.Control.{Control}
+use Rattle.urb_client.specs.declared.request.Control.TheVariants.{Crash, Restart, Status}
+use Rattle.urb_client.specs.Requests.{Asked, Ask, Submit, Read, Wait, IsAsked, control_fields}
+use Rattle.urb_client.specs.Requests.{control_of, opcode_of}
 use Rattle.urb_client.specs.Requests.{IsSubmit, Gives, submit_fields, read_fields, no_fields}
 use Rattle.urb_client.specs.Requests.{request_of, request_body, wait_fields}
 use Rattle.urb_client.proofs.ResponseParts.{IsBytes, IsBytes-rest, IsBytes-drop, by_test, two, four}
@@ -131,15 +134,34 @@ wait_takes fields asked fits e =
       bytes = ap (λ (r : List ℕ). 6 ∷ r) all;
     })
 
-alone_takes : (opcode : ℕ) (alone : Asked) (fields : List ℕ) (asked : Asked) → IsAsked alone
-    → opcode ∷ [] ≡ request_body alone → no_fields alone fields ≡ Ok asked
-    → Spells fields opcode asked
-alone_takes opcode alone fields asked is body e =
-    let len = held (length fields == 0) 3 (Ok alone) asked e in
-    let same : alone ≡ asked = cc (len.1) in
-    let nothing : fields ≡ [] = nil_from_length fields (eqb-true _ _ len.0) in
-    subst (Spells fields opcode) same
-    (record { is = is; bytes = ap (λ (r : List ℕ). opcode ∷ r) nothing ∙ body })
+-- the request without fields of an opcode has this opcode
+pub has_opcode : (opcode : ℕ) (control : Control) → control_of opcode ≡ Some control
+    → opcode ≡ opcode_of control
+has_opcode opcode control e =
+    let P : Type 0 = opcode ≡ opcode_of control in
+    let from : (n : ℕ) (c : Control) → (opcode == n) ≡ true → n ≡ opcode_of c
+    → Some c ≡ Some control → P =
+    λ n c same is e. eqb-true opcode n same ∙ is ∙ ap opcode_of (cc (e)) in
+    by_test (opcode == 3) _ _ (Some control) P e (λ same h. from 3 Status same refl h)
+    (λ e. by_test (opcode == 4) _ _ (Some control) P e (λ same h. from 4 Crash same refl h)
+    (λ e. by_test (opcode == 5) _ _ (Some control) P e (λ same h. from 5 Restart same refl h)
+    (λ e. absurd cc)))
+
+control_takes : (opcode : ℕ) (fields : List ℕ) (asked : Asked)
+    → control_fields opcode fields ≡ Ok asked → Spells fields opcode asked
+control_takes opcode fields asked e = go (control_of opcode) refl e where
+  go : (c : Option Control) → control_of opcode ≡ c → no_fields c fields ≡ Ok asked
+      → Spells fields opcode asked
+  go None is e = absurd cc
+  go (Some control) is e =
+      let len = held (length fields == 0) 3 (Ok (Ask control)) asked e in
+      let same : Ask control ≡ asked = cc (len.1) in
+      let nothing : fields ≡ [] = nil_from_length fields (eqb-true _ _ len.0) in
+      subst (Spells fields opcode) same (record {
+        is = tt;
+        bytes = ap (λ (r : List ℕ). opcode ∷ r) nothing
+            ∙ ap (λ (n : ℕ). n ∷ []) (has_opcode opcode control is);
+      })
 
 -- bytes that are read as a request are its encoding, and its values are within their limits
 pub asked_takes : (bytes : List ℕ) (asked : Asked) → IsBytes bytes → request_of bytes ≡ Ok asked
@@ -154,15 +176,9 @@ asked_takes (opcode ∷ fields) asked fits e =
     (λ same h. from 1 same (submit_takes fields asked rest h))
     (λ e. by_test (opcode == 2) _ _ (Ok asked) P e
     (λ same h. from 2 same (read_takes fields asked rest h))
-    (λ e. by_test (opcode == 3) _ _ (Ok asked) P e
-    (λ same h. from 3 same (alone_takes 3 Status fields asked tt refl h))
-    (λ e. by_test (opcode == 4) _ _ (Ok asked) P e
-    (λ same h. from 4 same (alone_takes 4 Crash fields asked tt refl h))
-    (λ e. by_test (opcode == 5) _ _ (Ok asked) P e
-    (λ same h. from 5 same (alone_takes 5 Restart fields asked tt refl h))
     (λ e. by_test (opcode == 6) _ _ (Ok asked) P e
     (λ same h. from 6 same (wait_takes fields asked rest h))
-    (λ e. absurd cc))))))
+    (λ e. let s = control_takes opcode fields asked e in (s.is, s.bytes))))
 
 -- a request that a call returns has these bytes as its encoding, and values within their limits
 pub is_found : {A : Type 0} (view : A → Asked) (bytes : List ℕ) (read : Result A Refusal)

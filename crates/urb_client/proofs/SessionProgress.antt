@@ -1,10 +1,10 @@
 -- A session so far: what was read, answered and written.
-use Rattle.std.proofs.Common.{◌≡◌, ◌≢◌, ℕ, ◌<◌, ◌≤◌, List, [], ◌∷◌, ◌++◌, Option, Some, None}
+use Rattle.std.proofs.Common.{◌≡◌, ℕ, ◌<◌, ◌≤◌, List, [], ◌∷◌, ◌++◌, Option, Some, None}
 use Rattle.std.proofs.Common.{Result, Ok, Err, length, refl, sym, ap, ◌∙◌, subst, append_assoc}
-use Rattle.std.proofs.Common.{append-nil, inl, inr}
+use Rattle.std.proofs.Common.{append-nil, inl, inr, ◌+◌, length-append}
 use Rattle.std.specs.Prelude.{IfSome, IsSomeAnd}
 use Rattle.std.specs.Io.KnownBytes.{Consumes, Appends, IsAtEnd}
-use Rattle.std.proofs.KnownBytes.{Appends-trans}
+use Rattle.std.proofs.KnownBytes.{Appends-nil, Appends-trans}
 use Rattle.urb_client.specs.declared.format.TheConstants.{LONGEST_REQUEST}
 use Rattle.urb_client.specs.declared.sessions.Ended.TheVariants.{Closed, BadFrame}
 use Rattle.urb_client.specs.declared.sessions.SessionFault.{SessionFault}
@@ -13,7 +13,11 @@ use Rattle.urb_client.specs.Requests.{Asked, request_of}
 use Rattle.urb_client.specs.Responses.{Said, Refused, encoding, frame}
 use Rattle.urb_client.specs.Sessions.{Event, Asks, Fault, Says, Begins, IsBroken, Replies}
 use Rattle.urb_client.specs.Sessions.{WholeSession, Served, Leaves, Meets, TakesFrame, BreaksOff}
-use Rattle.urb_client.specs.internal.SessionPieces.{Answers, GoesUnanswered, PartRead}
+use Rattle.urb_client.specs.internal.SessionPieces.{Answers, GoesUnanswered, GoesUnwritten}
+use Rattle.urb_client.specs.internal.SessionPieces.{PartRead}
+use Rattle.urb_client.specs.declared.full_read.ReadFailed.{ReadFailed}
+use Rattle.urb_client.specs.declared.sessions.TheConstants.{MOST_FRAMES}
+use Rattle.urb_names.specs.declared.refusal.NoMemory.{NoMemory}
 
 -- a whole frame is taken, and this holds for it
 whole_taken : (P : Event → Type 0) (known left : Option (List ℕ)) (body : List ℕ) (event : Event)
@@ -33,6 +37,14 @@ broken_taken P None left code b holds = tt
 broken_taken P (Some bytes) None code b holds = absurd b
 broken_taken P (Some bytes) (Some rest) code b holds = inr (code, b, holds)
 
+-- what isn't written of a writer, in what the writer holds
+pub unwritten : {W : Type 0} (contents : W → Option (List ℕ)) (cause : SessionFault) (old new : W)
+    → GoesUnwritten cause old new → GoesUnwritten cause (contents old) (contents new)
+unwritten {W} contents (fault.Read why) old new g = absurd g
+unwritten {W} contents (fault.Write why) old new g = tt
+unwritten {W} contents (fault.NoMemory why) old new g = ap contents g
+unwritten {W} contents fault.TooMany old new g = absurd g
+
 module _ {S : Type 0} (answers : S → Asked → Said → S → Type 0) where
   -- the part of the input that is known to be answered
   abbrev pub Going : Option (List ℕ) → Option (List ℕ) → S → S → Option (List ℕ) → Option (List ℕ)
@@ -40,6 +52,37 @@ module _ {S : Type 0} (answers : S → Asked → Said → S → Type 0) where
   Going from known old new before after =
       IfSome from (λ input. IsSomeAnd known
       (λ rest. Served answers input rest old new before after))
+
+  -- the same, after this many frames
+  abbrev pub GoingFor : ℕ → Option (List ℕ) → Option (List ℕ) → S → S → Option (List ℕ)
+      → Option (List ℕ) → Type 0
+  GoingFor count from known old new before after =
+      IfSome from (λ input. IsSomeAnd known
+      (λ rest. (served : Served answers input rest old new before after)
+      × (length served.events ≡ count)))
+
+  -- no frame has come yet
+  pub no_frame_yet : (from : Option (List ℕ)) (old : S) (before : Option (List ℕ))
+      → GoingFor 0 from from old old before before
+  no_frame_yet None old before = tt
+  no_frame_yet (Some input) old before = (
+    record {
+      events = [];
+      output = [];
+      begins = refl;
+      replies = (refl, refl);
+      written = Appends-nil before;
+    },
+    refl,
+  )
+
+  -- what is known after some frames, without their number
+  pub going : (count : ℕ) (from known : Option (List ℕ)) (old new : S)
+      (before after : Option (List ℕ)) → GoingFor count from known old new before after
+      → Going from known old new before after
+  going count None known old new before after p = tt
+  going count (Some input) None old new before after p = absurd p
+  going count (Some input) (Some bytes) old new before after p = p.0
 
   Begins_more : (bytes : List ℕ) (events : List Event) (rest body mid : List ℕ) (event : Event)
       → Begins bytes events rest → 0 < length body → length body ≤ LONGEST_REQUEST
@@ -125,22 +168,41 @@ module _ {S : Type 0} (answers : S → Asked → Said → S → Type 0) where
         written = Appends-trans _ _ _ _ _ p.written w;
       }
 
+  more_counted : (input bytes rest : List ℕ) (old mid new : S)
+      (before after later : Option (List ℕ)) (body : List ℕ) (said : Said)
+      (read : Result Asked ℕ) (is : request_of body ≡ read)
+      (p : Served answers input bytes old mid before after) (c : bytes ≡ frame body ++ rest)
+      (some : 0 < length body) (small : length body ≤ LONGEST_REQUEST)
+      (a : Answers answers mid read said new) (w : Appends after later (encoding said))
+      → length
+      (more input bytes rest old mid new before after later body said read is p c some small a
+      w).events ≡ length p.events + 1
+  unfolding more
+  more_counted input bytes rest old mid new before after later body said (Ok asked) is p c some
+      small a w = length-append p.events (Asks asked ∷ [])
+  more_counted input bytes rest old mid new before after later body said (Err code) is p c some
+      small a w = length-append p.events (Fault code ∷ [])
+
   -- one more frame is answered
-  pub one_more : (from : Option (List ℕ)) (old mid new : S)
+  pub one_more : (count : ℕ) (from : Option (List ℕ)) (old mid new : S)
       (before after later known left : Option (List ℕ)) (body : List ℕ) (said : Said)
-      → Going from known old mid before after → Consumes known left (frame body) → 0 < length body
+      → GoingFor count from known old mid before after → Consumes known left (frame body)
+      → 0 < length body
       → length body ≤ LONGEST_REQUEST → Answers answers mid (request_of body) said new
       → Appends after later (encoding said)
-      → Going from left old new before later
-  one_more None old mid new before after later known left body said p c some small a w = tt
-  one_more (Some input) old mid new before after later None left body said p c some small a w =
-      absurd p
-  one_more (Some input) old mid new before after later
+      → GoingFor (count + 1) from left old new before later
+  one_more count None old mid new before after later known left body said p c some small a w = tt
+  one_more count (Some input) old mid new before after later None left body said p c some small a
+      w = absurd p
+  one_more count (Some input) old mid new before after later
       (Some bytes) None body said p c some small a w = absurd c
-  one_more (Some input) old mid new before after later (Some bytes)
-      (Some rest) body said p c some small a w =
-      more input bytes rest old mid new before after later body said
-      (request_of body) refl p c some small a w
+  one_more count (Some input) old mid new before after later (Some bytes)
+      (Some rest) body said p c some small a w = (
+        more input bytes rest old mid new before after later body said
+            (request_of body) refl p.0 c some small a w,
+        more_counted input bytes rest old mid new before after later body said
+            (request_of body) refl p.0 c some small a w ∙ ap (λ (n : ℕ). n + 1) p.1,
+      )
 
   -- the input ends between two frames
   pub closes : (from : Option (List ℕ)) (old new : S) (before after known left : Option (List ℕ))
@@ -217,36 +279,36 @@ module _ {S : Type 0} (answers : S → Asked → Said → S → Type 0) where
 
   module _ (refuses : S → Asked → S → Type 0) where
     -- the reader fails inside a frame
-    pub read_fails : (from : Option (List ℕ)) (old new : S)
+    pub read_fails : (from : Option (List ℕ)) (why : ReadFailed) (old new : S)
         (before after known left : Option (List ℕ)) → Going from known old new before after
         → PartRead known left
         → IfSome from (λ input. IsSomeAnd left
-        (λ rest. BreaksOff answers refuses input fault.Read rest old new before after))
-    read_fails None old new before after known left p t = tt
-    read_fails (Some input) old new before after None left p t = absurd p
-    read_fails (Some input) old new before after (Some bytes) None p t = absurd t
-    read_fails (Some input) old new before after (Some bytes) (Some rest) p t = (bytes, p, t)
+        (λ rest. BreaksOff answers refuses input (fault.Read why) rest old new before after))
+    read_fails None why old new before after known left p t = tt
+    read_fails (Some input) why old new before after None left p t = absurd p
+    read_fails (Some input) why old new before after (Some bytes) None p t = absurd t
+    read_fails (Some input) why old new before after (Some bytes) (Some rest) p t = (bytes, p, t)
 
-    -- too many frames came
+    -- the most frames of a session came
     pub too_many : (from : Option (List ℕ)) (old new : S) (before after known : Option (List ℕ))
-        → Going from known old new before after
+        → GoingFor MOST_FRAMES from known old new before after
         → IfSome from (λ input. IsSomeAnd known
-        (λ rest. BreaksOff answers refuses input fault.Read rest old new before after))
+        (λ rest. BreaksOff answers refuses input fault.TooMany rest old new before after))
     too_many None old new before after known p = tt
     too_many (Some input) old new before after None p = absurd p
-    too_many (Some input) old new before after (Some bytes) p = (bytes, p, ([], refl, inl refl))
+    too_many (Some input) old new before after (Some bytes) p = p
 
     -- memory is refused for a frame
-    pub not_answered : (from : Option (List ℕ)) (old mid new : S)
+    pub not_answered : (from : Option (List ℕ)) (why : NoMemory) (old mid new : S)
         (before after known left : Option (List ℕ)) → Going from known old mid before after
         → IfSome known (λ bytes. IsSomeAnd left
         (TakesFrame (λ event. Leaves answers refuses mid event new) bytes))
         → IfSome from (λ input. IsSomeAnd left
-        (λ rest. BreaksOff answers refuses input fault.NoMemory rest old new before after))
-    not_answered None old mid new before after known left p t = tt
-    not_answered (Some input) old mid new before after None left p t = absurd p
-    not_answered (Some input) old mid new before after (Some bytes) None p t = absurd t
-    not_answered (Some input) old mid new before after (Some bytes) (Some rest) p t =
+        (λ rest. BreaksOff answers refuses input (fault.NoMemory why) rest old new before after))
+    not_answered None why old mid new before after known left p t = tt
+    not_answered (Some input) why old mid new before after None left p t = absurd p
+    not_answered (Some input) why old mid new before after (Some bytes) None p t = absurd t
+    not_answered (Some input) why old mid new before after (Some bytes) (Some rest) p t =
         (bytes, mid, p, t)
 
     met_leaves : (old new : S) (event : Event) → Meets answers old event new
@@ -264,26 +326,28 @@ module _ {S : Type 0} (answers : S → Asked → Said → S → Type 0) where
     pub not_written : (from : Option (List ℕ)) (cause : SessionFault) (old mid new : S)
         (before after later known left : Option (List ℕ)) → Going from known old mid before after
         → IfSome known (λ bytes. IsSomeAnd left
-        (TakesFrame (λ event. Meets answers mid event new) bytes)) → cause ≢ fault.Read
-        → (cause ≢ fault.Write → later ≡ after)
+        (TakesFrame (λ event. Meets answers mid event new) bytes))
+        → GoesUnwritten cause after later
         → IfSome from (λ input. IsSomeAnd left
         (λ rest. BreaksOff answers refuses input cause rest old new before later))
-    not_written None cause old mid new before after later known left p t r w = tt
-    not_written (Some input) cause old mid new before after later None left p t r w = absurd p
-    not_written (Some input) cause old mid new before after later (Some bytes) None p t r w =
+    not_written None cause old mid new before after later known left p t w = tt
+    not_written (Some input) cause old mid new before after later None left p t w = absurd p
+    not_written (Some input) cause old mid new before after later (Some bytes) None p t w =
         absurd t
-    not_written (Some input) fault.Read old mid new before after later (Some bytes)
-        (Some rest) p t r w = absurd (r refl)
-    not_written (Some input) fault.NoMemory old mid new before after later (Some bytes)
-        (Some rest) p t r w = (
+    not_written (Some input) (fault.Read why) old mid new before after later (Some bytes)
+        (Some rest) p t w = absurd w
+    not_written (Some input) fault.TooMany old mid new before after later (Some bytes)
+        (Some rest) p t w = absurd w
+    not_written (Some input) (fault.NoMemory why) old mid new before after later (Some bytes)
+        (Some rest) p t w = (
           bytes,
           mid,
           subst (λ (out : Option (List ℕ)).
-              Served answers input bytes old mid before out) (sym (w (λ e. absurd cc))) p,
+              Served answers input bytes old mid before out) (sym w) p,
           met_taken mid new bytes rest t,
         )
-    not_written (Some input) fault.Write old mid new before after later (Some bytes)
-        (Some rest) p t r w = (bytes, mid, p.events, p.output, p.begins, p.replies, t)
+    not_written (Some input) (fault.Write why) old mid new before after later (Some bytes)
+        (Some rest) p t w = (bytes, mid, p.events, p.output, p.begins, p.replies, t)
 
     read_refused : (old new : S) (known left : Option (List ℕ)) (body : List ℕ)
         (read : Result Asked ℕ) → request_of body ≡ read → Consumes known left (frame body)

@@ -7,6 +7,7 @@ use Rattle.urb_client.specs.declared.sessions.Ended.{Ended}
 use Rattle.urb_client.specs.declared.sessions.Ended.TheVariants.{Closed, BadFrame}
 use Rattle.urb_client.specs.declared.sessions.SessionFault.{SessionFault}
 use Rattle.urb_client.specs.declared.sessions.SessionFault.TheVariants as fault
+use Rattle.urb_client.specs.declared.sessions.TheConstants.{MOST_FRAMES}
 use Rattle.urb_client.specs.declared.format.TheConstants.{LONGEST_REQUEST, BAD_LENGTH, CUT}
 use Rattle.urb_client.specs.Requests.{Asked, request_of}
 use Rattle.urb_client.specs.Responses.{Said, Refused, encoding, frame}
@@ -129,15 +130,18 @@ TakesPart bytes rest = (part : List ℕ) × (bytes ≡ part ++ rest) × ((part �
 -- frames that were read whole are answered. Without memory, all frames but the last one that was
 -- read are answered. The desk is as the last frame leaves it, answered or not. After a failed
 -- write, the desk has answered every request that was read whole, the last one too. This doesn't
--- speak of the output.
+-- speak of the output. After the most frames of a session, all of them are answered.
 abbrev pub BreaksOff : {S : Type 0} → (S → Asked → Said → S → Type 0) → (S → Asked → S → Type 0)
     → List ℕ → SessionFault → List ℕ → S → S → Option (List ℕ) → Option (List ℕ) → Type 0
-BreaksOff {S} answers refuses input fault.Read left old new before after =
+BreaksOff {S} answers refuses input (fault.Read why) left old new before after =
     (rest : List ℕ) × Served answers input rest old new before after × TakesPart rest left
-BreaksOff {S} answers refuses input fault.NoMemory left old new before after =
+BreaksOff {S} answers refuses input (fault.NoMemory why) left old new before after =
     (rest : List ℕ) × (mid : S) × Served answers input rest old mid before after
     × TakesFrame (λ event. Leaves answers refuses mid event new) rest left
-BreaksOff {S} answers refuses input fault.Write left old new before after =
+BreaksOff {S} answers refuses input (fault.Write why) left old new before after =
     (rest : List ℕ) × (mid : S) × (events : List Event) × (output : List ℕ)
     × Begins input events rest × Replies answers old events output mid
     × TakesFrame (λ event. Meets answers mid event new) rest left
+BreaksOff {S} answers refuses input fault.TooMany left old new before after =
+    (served : Served answers input left old new before after)
+    × (length served.events ≡ MOST_FRAMES)

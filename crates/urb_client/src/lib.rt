@@ -27,6 +27,7 @@
 
 mod buffered_answers;
 mod format;
+mod frame_write;
 mod full_read;
 mod pages;
 mod request;
@@ -37,9 +38,13 @@ mod sessions;
 
 pub use buffered_answers::{BufferedAnswers, BufferedWriter, FlushingInput};
 pub use format::{MOST_ENTRIES, UNKNOWN_OPCODE};
+pub use frame_write::WriteFailed;
+pub use full_read::ReadFailed;
 pub use pages::one_page_after_another;
-pub use request::{Request, encode_request, parse_request};
+pub use request::{Control, Request, encode_request, parse_request};
 pub use response::{Entries, NodeState, Response, encode_response};
 pub use response_parser::parse_response;
 pub use response_receiver::{ResponseFault, read_response};
-pub use sessions::{Desk, Ended, SessionFault, one_reading, session};
+pub use sessions::{
+    Desk, Ended, MOST_FRAMES, SessionEnd, SessionFault, one_reading, serve_session, session,
+};

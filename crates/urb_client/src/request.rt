@@ -1,9 +1,9 @@
 //! Requests of clients, and their frames.
 
-ghost use Rattle.std.specs.Prelude.{◌≡◌, ◌<◌, [], ◌∷◌, IfOk, Ok};
+ghost use Rattle.std.specs.Prelude.{◌≡◌, ◌<◌, [], ◌∷◌, IfOk, IfSome, Ok, Some};
 ghost use Rattle.urb_client.specs.Requests.{Asked, Gives, IsAsked, IsShort, request_of, asked_by};
-ghost use Rattle.urb_client.specs.Requests.{submit_fields, read_fields, no_fields, request_body};
-ghost use Rattle.urb_client.specs.Requests.{wait_fields};
+ghost use Rattle.urb_client.specs.Requests.{submit_fields, read_fields, wait_fields, request_body};
+ghost use Rattle.urb_client.specs.Requests.{control_fields, control_of, opcode_of};
 ghost use Rattle.urb_client.specs.Responses.{frame};
 ghost use Rattle.urb_client.specs.Sessions.{Begins, Asks};
 
@@ -14,6 +14,45 @@ use crate::format::{
 use byteorder::{BigEndian, ByteOrder};
 use std::alloc::{Allocator, Global};
 use urb_names::{ClientId, NoMemory, Payload, Refusal};
+
+/// A request without fields, about the node itself. Its frame is an opcode alone.
+#[derive(Clone, Copy, Debug, PartialEq, Eq)]
+pub enum Control {
+    /// Show the node's state.
+    Status,
+    /// Stop the node, as if it crashed.
+    Crash,
+    /// Start the node again from its storage.
+    Restart,
+}
+
+impl Control {
+    // Returns the request that has this opcode, if any has.
+    fn of(opcode: u8) -> Option<Control>
+        ensures exact { result ≡ control_of opcode }
+        ensures found { IfSome result (λ control. opcode ≡ opcode_of control) }
+        ensures only { (control : _) → opcode ≡ opcode_of control → result ≡ Some control }
+    {
+        match opcode {
+            ASK_STATUS => Some(Control::Status),
+            ASK_CRASH => Some(Control::Crash),
+            ASK_RESTART => Some(Control::Restart),
+            _ => None,
+        }
+    }
+
+    // Returns its opcode.
+    fn opcode(self) -> u8
+        ensures exact { result ≡ opcode_of self }
+        ensures back { control_of result ≡ Some self }
+    {
+        match self {
+            Control::Status => ASK_STATUS,
+            Control::Crash => ASK_CRASH,
+            Control::Restart => ASK_RESTART,
+        }
+    }
+}
 
 /// A request of a client to a node.
 #[derive(Drop)]
@@ -38,12 +77,8 @@ pub enum Request<A: Allocator = Global> {
         max: u8,
         millis: u16,
     },
-    /// Show the node's state.
-    Status,
-    /// Stop the node, as if it crashed.
-    Crash,
-    /// Start the node again from its storage.
-    Restart,
+    /// Show the node's state, stop the node, or start it again.
+    Ask(Control),
 }
 
 /// Parses the bytes of a frame after its length, and returns the request that they encode.
@@ -73,11 +108,9 @@ fn parse_by_opcode<A: Allocator + Copy>(alloc: A, bytes: &[u8]) -> Result<Reques
     match bytes {
         [ASK_SUBMIT, fields @ ..] => submit_of(alloc, fields),
         [ASK_READ, fields @ ..] => read_of(fields),
-        [ASK_STATUS, fields @ ..] => require_no_fields(Request::Status, fields),
-        [ASK_CRASH, fields @ ..] => require_no_fields(Request::Crash, fields),
-        [ASK_RESTART, fields @ ..] => require_no_fields(Request::Restart, fields),
         [ASK_WAIT, fields @ ..] => wait_of(fields),
-        _ => Err(Refusal::Frame(UNKNOWN_OPCODE)),
+        [opcode, fields @ ..] => control_without_fields(*opcode, fields),
+        [] => Err(Refusal::Frame(UNKNOWN_OPCODE)),
     }
 }
 
@@ -136,16 +169,16 @@ fn wait_of<A: Allocator>(fields: &[u8]) -> Result<Request<A>, Refusal>
     Ok(Request::Wait { place, max, millis })
 }
 
-fn require_no_fields<A: Allocator>(
-    request: Request<A>,
-    fields: &[u8],
-) -> Result<Request<A>, Refusal>
-    ensures { Gives asked_by result (no_fields (asked_by request) fields.now) }
+fn control_without_fields<A: Allocator>(opcode: u8, fields: &[u8]) -> Result<Request<A>, Refusal>
+    ensures { Gives asked_by result (control_fields opcode fields.now) }
 {
+    let Some(control) = Control::of(opcode) else {
+        return Err(Refusal::Frame(UNKNOWN_OPCODE));
+    };
     if !fields.is_empty() {
         return Err(Refusal::Frame(WRONG_LENGTH));
     }
-    Ok(request)
+    Ok(Request::Ask(control))
 }
 
 /// Returns the whole frame of a request, for a client to send. The request's place must be 1 or
@@ -191,9 +224,7 @@ fn build_frame<A: Allocator>(alloc: A, request: &Request<A>) -> Result<Vec<u8, A
             BigEndian::write_u16(&mut head[8..], *millis);
             frame.extend_from_slice(&head)?;
         }
-        Request::Status => frame.extend_from_slice(&[0, 1, ASK_STATUS])?,
-        Request::Crash => frame.extend_from_slice(&[0, 1, ASK_CRASH])?,
-        Request::Restart => frame.extend_from_slice(&[0, 1, ASK_RESTART])?,
+        Request::Ask(control) => frame.extend_from_slice(&[0, 1, control.opcode()])?,
     }
     Ok(frame)
 }

@@ -1,19 +1,22 @@
 //! Sessions: frames in, frames out.
 
-ghost use Rattle.std.specs.Prelude.{◌≡◌, ◌≢◌, IfOk, IfErr, OnOk, OnErr, IfSome, IsSomeAnd, length};
+ghost use Rattle.std.specs.Prelude.{◌≡◌, IfOk, IfErr, OnOk, OnErr, IfSome, IsSomeAnd, length};
 ghost use Rattle.std.specs.Io.KnownBytes.{Appends};
 ghost use Rattle.byteorder.specs.Endian.{big_bytes};
 ghost use Rattle.urb_client.specs.Requests.{Asked, IsAsked, asked_by, request_of};
 ghost use Rattle.urb_client.specs.Responses.{Said, said_by, encoding};
 ghost use Rattle.urb_client.specs.internal.SessionPieces.{ReadsPiece, PartRead, Answers, GoesUnanswered};
+ghost use Rattle.urb_client.specs.internal.SessionPieces.{GoesUnwritten};
 ghost use Rattle.urb_client.specs.Sessions.{WholeSession, BreaksOff, IsReadOnce};
 
 use crate::format::{BAD_LENGTH, CUT, LONGEST_REQUEST};
+use crate::frame_write::{WriteFailed, write_frame};
 use crate::full_read::{ReadFailed, read_full};
 use crate::{Request, Response, encode_response, parse_request};
 use byteorder::{BigEndian, ByteOrder};
 use std::alloc::Allocator;
 use std::io::{Read, Write};
+use std::marker::Model;
 use thiserror::Error;
 use urb_names::{NoMemory, Refusal};
 
@@ -24,25 +27,31 @@ pub enum Ended {
     BadFrame,
 }
 
-/// Why a session broke off: the reader failed, the writer failed, or memory was refused.
+/// The most frames of one session.
+pub const MOST_FRAMES: u64 = u64::MAX;
+
+/// Why a session broke off: the reader failed, the writer failed, memory was refused, or it has
+/// answered `MOST_FRAMES` frames. The first three have the witness of their cause.
 #[derive(Clone, Copy, Debug, PartialEq, Eq, Error)]
 pub enum SessionFault {
     #[error("read failed")]
-    Read,
+    Read(ReadFailed),
     #[error("write failed")]
-    Write,
+    Write(WriteFailed),
     #[error("no memory")]
-    NoMemory,
+    NoMemory(NoMemory),
+    #[error("too many frames")]
+    TooMany,
 }
 
 impl From<NoMemory> for SessionFault {
     ghost use Rattle.std.specs.Prelude.{◌≡◌};
     ghost use Rattle.urb_client.specs.declared.sessions.SessionFault.TheVariants.{NoMemory as no_memory};
 
-    ghost from_gives = { λ _ e. e ≡ no_memory };
+    ghost from_gives = { λ refused e. e ≡ no_memory refused };
 
-    fn from(_: NoMemory) -> SessionFault {
-        SessionFault::NoMemory
+    fn from(refused: NoMemory) -> SessionFault {
+        SessionFault::NoMemory(refused)
     }
 }
 
@@ -50,10 +59,46 @@ impl From<ReadFailed> for SessionFault {
     ghost use Rattle.std.specs.Prelude.{◌≡◌};
     ghost use Rattle.urb_client.specs.declared.sessions.SessionFault.TheVariants.{Read as read};
 
-    ghost from_gives = { λ _ e. e ≡ read };
+    ghost from_gives = { λ failed e. e ≡ read failed };
 
-    fn from(_: ReadFailed) -> SessionFault {
-        SessionFault::Read
+    fn from(failed: ReadFailed) -> SessionFault {
+        SessionFault::Read(failed)
+    }
+}
+
+impl From<WriteFailed> for SessionFault {
+    ghost use Rattle.std.specs.Prelude.{◌≡◌};
+    ghost use Rattle.urb_client.specs.declared.sessions.SessionFault.TheVariants.{Write as write};
+
+    ghost from_gives = { λ failed e. e ≡ write failed };
+
+    fn from(failed: WriteFailed) -> SessionFault {
+        SessionFault::Write(failed)
+    }
+}
+
+/// The witness that a session ran to its end, and how it ended. Only `serve_session` makes one.
+#[derive(Drop)]
+pub struct SessionEnd {
+    how: Result<Ended, SessionFault>,
+}
+
+impl Model for SessionEnd {
+    ghost use Rattle.std.specs.Prelude.{Result};
+    ghost use Rattle.urb_client.specs.declared.sessions.Ended.{Ended};
+    ghost use Rattle.urb_client.specs.declared.sessions.SessionFault.{SessionFault};
+
+    ghost Value = { Result Ended SessionFault };
+
+    ghost view = { λ end. end.how };
+}
+
+impl SessionEnd {
+    /// How the session ended.
+    pub fn how(&self) -> Result<Ended, SessionFault>
+        ensures { result ≡ self.now }
+    {
+        self.how
     }
 }
 
@@ -126,15 +171,6 @@ fn read_frame<R: Read>(reader: &mut R, body: &mut [u8]) -> Result<Piece, ReadFai
     Ok(Piece::Whole(len))
 }
 
-// Writes a whole frame.
-fn write_frame<W: Write>(writer: &mut W, frame: &[u8]) -> Result<(), SessionFault>
-    ensures ok { OnOk result (Appends (W.contents writer.old) (W.contents writer.new) frame.now) }
-    ensures err { IfErr result (λ fault. fault ≡ SessionFault.Write) }
-{
-    writer.write_all(frame).map_err(|_| SessionFault::Write)?;
-    writer.flush().map_err(|_| SessionFault::Write)
-}
-
 // Writes the frame of a response.
 fn write_response<A: Allocator + Copy, W: Write>(
     alloc: A,
@@ -143,11 +179,11 @@ fn write_response<A: Allocator + Copy, W: Write>(
 ) -> Result<(), SessionFault>
     ensures ok { OnOk result (Appends (W.contents writer.old) (W.contents writer.new)
         (encoding (said_by response.now))) }
-    ensures read { IfErr result (λ fault. fault ≢ SessionFault.Read) }
-    ensures err { IfErr result (λ fault. fault ≢ SessionFault.Write → writer.new ≡ writer.old) }
+    ensures err { IfErr result (λ fault. GoesUnwritten fault writer.old writer.new) }
 {
     let frame = encode_response(alloc, response)?;
-    write_frame(writer, frame.as_slice())
+    write_frame(writer, frame.as_slice())?;
+    Ok(())
 }
 
 // Returns the answer to the bytes of a whole frame.
@@ -170,28 +206,22 @@ fn respond<D: Desk>(
     }
 }
 
-/// Answers the requests of a client until the input ends, or is no frame. It flushes each response.
-/// After 18,446,744,073,709,551,615 frames it ends with `Read`. After a fault it reads and writes
-/// no further byte.
-pub fn session<R: Read, W: Write, D: Desk>(
+// Answers the frames of a client until the input ends, or is no frame.
+fn answer_frames<R: Read, W: Write, D: Desk>(
     alloc: D::Alloc,
     reader: &mut R,
     writer: &mut W,
     desk: &mut D,
 ) -> Result<Ended, SessionFault>
-    // All that the reader held is read as these requests and faults, and they are answered in
-    // order.
     ensures ended { IfOk result (λ ended. IfSome (R.remaining reader.old) (λ input.
         IsSomeAnd (R.remaining reader.new) (λ left. WholeSession D.answers input ended left
         desk.old desk.new (W.contents writer.old) (W.contents writer.new)))) }
-    // The frames that were read whole are answered, except perhaps the last one. The desk is as
-    // that one leaves it.
     ensures broken_off { IfErr result (λ fault. IfSome (R.remaining reader.old) (λ input.
         IsSomeAnd (R.remaining reader.new) (λ left. BreaksOff D.answers D.refuses input fault left
         desk.old desk.new (W.contents writer.old) (W.contents writer.new)))) }
 {
     let mut body = [0u8; LONGEST_REQUEST];
-    for _ in 0..u64::MAX {
+    for _ in 0..MOST_FRAMES {
         match read_frame(reader, &mut body)? {
             Piece::End => return Ok(Ended::Closed),
             Piece::Broken(code) => {
@@ -205,7 +235,53 @@ pub fn session<R: Read, W: Write, D: Desk>(
             }
         }
     }
-    Err(SessionFault::Read)
+    Err(SessionFault::TooMany)
+}
+
+/// Answers the requests of a client until the input ends, or is no frame. It flushes each response.
+/// After `MOST_FRAMES` frames it ends with `TooMany`. After a fault it reads and writes no further
+/// byte. The result is a witness, for a caller that has to show that the session ran to its end.
+pub fn serve_session<R: Read, W: Write, D: Desk>(
+    alloc: D::Alloc,
+    reader: &mut R,
+    writer: &mut W,
+    desk: &mut D,
+) -> SessionEnd
+    // All that the reader held is read as these requests and faults, and they are answered in
+    // order.
+    ensures ended { IfOk result (λ ended. IfSome (R.remaining reader.old) (λ input.
+        IsSomeAnd (R.remaining reader.new) (λ left. WholeSession D.answers input ended left
+        desk.old desk.new (W.contents writer.old) (W.contents writer.new)))) }
+    // The frames that were read whole are answered, except perhaps the last one. The desk is as
+    // that one leaves it. `TooMany` says that `MOST_FRAMES` frames are answered.
+    ensures broken_off { IfErr result (λ fault. IfSome (R.remaining reader.old) (λ input.
+        IsSomeAnd (R.remaining reader.new) (λ left. BreaksOff D.answers D.refuses input fault left
+        desk.old desk.new (W.contents writer.old) (W.contents writer.new)))) }
+{
+    SessionEnd {
+        how: answer_frames(alloc, reader, writer, desk),
+    }
+}
+
+/// Does the same, and returns how the session ended.
+pub fn session<R: Read, W: Write, D: Desk>(
+    alloc: D::Alloc,
+    reader: &mut R,
+    writer: &mut W,
+    desk: &mut D,
+) -> Result<Ended, SessionFault>
+    // All that the reader held is read as these requests and faults, and they are answered in
+    // order.
+    ensures ended { IfOk result (λ ended. IfSome (R.remaining reader.old) (λ input.
+        IsSomeAnd (R.remaining reader.new) (λ left. WholeSession D.answers input ended left
+        desk.old desk.new (W.contents writer.old) (W.contents writer.new)))) }
+    // The frames that were read whole are answered, except perhaps the last one. The desk is as
+    // that one leaves it. `TooMany` says that `MOST_FRAMES` frames are answered.
+    ensures broken_off { IfErr result (λ fault. IfSome (R.remaining reader.old) (λ input.
+        IsSomeAnd (R.remaining reader.new) (λ left. BreaksOff D.answers D.refuses input fault left
+        desk.old desk.new (W.contents writer.old) (W.contents writer.new)))) }
+{
+    serve_session(alloc, reader, writer, desk).how()
 }
 
 /// States that an input is read in only one way. This call does nothing: it is for proofs only.

@@ -113,8 +113,3 @@ append-none (x ∷ xs) = ap (λ zs. x ∷ zs) (append-none xs)
 pub none_left : {S : Type 0} (xs : List S) (n : ℕ) → n ≡ length xs → n ≡ 0 → xs ≡ []
 none_left [] n e z = refl
 none_left (x ∷ xs) n e z = absurd (omega arith)
-
--- one more element makes a list longer by one
-pub one_more_length : {S : Type 0} (xs : List S) (x : S) → length (xs ++ x ∷ []) ≡ suc (length xs)
-one_more_length [] x = refl
-one_more_length (y ∷ xs) x = ap suc (one_more_length xs x)

@@ -289,6 +289,8 @@ pub fn open_network<R: Files + Net<Listener = TcpListener, Stream = TcpStream>>(
     // The link's ports are those of the stations, in their order.
     ensures ports { IfOk result
         (λ it. it.link.ports.items ≡ map (λ s. s.udp_port) it.stations.items) }
+    // The nodes tick as often as the options say.
+    ensures ticks { IfOk result (λ it. it.every ≡ serving.entry.every) }
     // The nodes serve their clients as the options say.
     ensures limits { IfOk result (λ it. FitService serving.entry.service it.limits) }
 {

@@ -2,7 +2,7 @@
 use Rattle.std.proofs.Common.{List, [], ap, arith, max, suc, sym, ℕ, ◌++◌, ◌+◌, ◌∙◌, ◌∷◌, ◌≡◌}
 use Rattle.urb_feed.specs.Feeds.{greatest}
 use Rattle.urb_names.specs.Nodes.{numbers_from}
-use Rattle.urb_pending.proofs.OwnPairs.{numbers_more}
+use Rattle.urb_names.proofs.Places.{numbers_more}
 
 greatest-append : (f : ℕ → ℕ) (ns : List ℕ) (n : ℕ)
     → greatest f (ns ++ n ∷ []) ≡ max (greatest f ns) (f n)

@@ -3,7 +3,7 @@ use Rattle.std.proofs.Common.{List, [], ap, append-nil, arith, flat_map, length,
 use Rattle.std.proofs.Common.{suc, sym, zero, ℕ, ◌*◌, ◌++◌, ◌+◌, ◌<◌, ◌∙◌, ◌∷◌, ◌≡◌, ◌≤◌}
 use Rattle.std.proofs.lemmas.List.{flat_map_more, length-append}
 use Rattle.urb_names.specs.Nodes.{numbers_from}
-use Rattle.urb_pending.proofs.OwnPairs.{numbers_more}
+use Rattle.urb_names.proofs.Places.{numbers_more}
 
 module _ {A : Type 0} (f : ℕ → List A) where
   -- what comes of one more number

@@ -1,6 +1,6 @@
 -- Journals that were opened in the files that a stop had left.
-use Rattle.std.proofs.Common.{List, None, Option, Some, [], ap, arith, inl, length, refl, subst}
-use Rattle.std.proofs.Common.{suc, sym, ⊎_elim, ℕ, ◌<◌, ◌∙◌, ◌∷◌, ◌≡◌, ◌≤◌}
+use Rattle.std.proofs.Common.{List, None, Option, Some, [], arith, inl, length, subst}
+use Rattle.std.proofs.Common.{suc, sym, ⊎_elim, ℕ, ◌<◌, ◌∙◌, ◌≡◌, ◌≤◌}
 use Rattle.std.specs.List.{All}
 use Rattle.std.specs.Prelude.{slice_get}
 use Rattle.std.proofs.lemmas.Bool.{cases_lt}
@@ -14,9 +14,7 @@ use Rattle.urb_names.specs.LabelsAndContents.{Limits}
 use Rattle.urb_stable.specs.Entries.{Entry}
 use Rattle.urb_stable.specs.StableStorage.{IsContents}
 use Rattle.urb_stable.specs.declared.stable.Stable.{Ghosts}
-use Rattle.urb_node.specs.NodeViews.{NodeView, no_view}
-use Rattle.urb_node.specs.Part.{State}
-use Rattle.urb_node.specs.Steps.{doubt}
+use Rattle.urb_node.specs.NodeViews.{no_view}
 use Rattle.urb_group.specs.GroupViews.{GroupView, IsSound, Shows, view_of}
 use Rattle.urb_group.specs.ProcessStops.{MayLeave}
 use Rattle.urb_group.specs.StoreContents.{IsKnown, WouldLeave}
@@ -25,6 +23,7 @@ use Rattle.urb_group.specs.World.{World}
 use Rattle.urb_sqlite.proofs.FoundRecords.{found_as_held}
 use Rattle.urb_sqlite.specs.FoundJournals.{AreFoundIn, HoldsRecords}
 use Rattle.urb_folder.specs.StoppedFiles.{HasLeft, HoldsNode, HoldsStopped}
+use Rattle.urb_group.proofs.stops.StockedPlays.{no-place}
 
 -- The journals' storages are clean while they are honest, and no record is in doubt.
 module _ {S A : Type 0} (g : Ghosts S A) (cleans : (j : S) → g.is_honest j → g.is_clean j)
@@ -70,20 +69,6 @@ module _ {S A : Type 0} (g : Ghosts S A) (cleans : (j : S) → g.is_honest j →
       (λ clean. inl (one k place.0 place.1 clean).0))
 
 -- ---- the files that a stop left
-
--- a node that the group has no place for has stored nothing
-no-place : (group : GroupView) (w : World) (p : ℕ) → Shows group w → view_of group p ≡ no_view
-    → MayLeave (w.node p) []
-no-place group w p shows none = at ((w.node p).records) refl
-  where
-    at : (records : List Entry) → (w.node p).records ≡ records → MayLeave (w.node p) []
-    at [] e =
-        subst (λ (s : State). IsContents (w.node p).records (doubt s) [])
-        (ap (λ (v : NodeView). v.state) (sym none) ∙ (shows.nodes p).state) (sym e)
-    at (r ∷ records) e =
-        (let count : 0 ≡ suc (length records) =
-        ap (λ (v : NodeView). v.count) (sym none) ∙ ((shows.nodes p).count ∙ ap length e) in
-        absurd (omega (arith, count)))
 
 -- Each file holds what a stop may leave of its node. What a stop left of a store, and the files
 -- hold, has the records that the store would leave.

@@ -88,6 +88,10 @@ impl<D: Disk> Stable for Journal<D> {
         self.journal.store(pos, entry)
     }
 
+    fn store_all(&mut self, pos: u32, entries: &[Record]) -> Result<(), StoreFault> {
+        self.journal.store_all(pos, entries)
+    }
+
     fn retrieve(&mut self, alloc: Global) -> Result<Vec<Record>, StoreFault> {
         self.journal.retrieve(alloc)
     }

@@ -5,10 +5,13 @@
 -- safety, shown, recovery, moves and calls.
 pub mod StoppedWorlds
 pub mod LimitChanges
+pub mod AheadWorlds
 pub mod StockedSteps
 pub mod StockedNodes
 pub mod NodeStoreInvariant
 pub mod StockedClusters
+pub mod AheadStores
+pub mod AheadGroups
 pub mod StockedPlays
 pub mod StockedFailures
 pub mod StoppedCalls

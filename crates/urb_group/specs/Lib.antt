@@ -22,6 +22,7 @@ pub mod PlayedCommands
 pub mod Scenes
 pub mod StoreContents
 pub mod InPlaceDrafts
+pub mod StoresAhead
 pub mod MemoryStores
 pub mod StoreOpenings
 pub mod DeliveredMessages

@@ -8,3 +8,4 @@ pub mod Scripts
 pub mod StoreRetrievals
 pub mod RecoveryExamples
 pub mod RoundExamples
+pub mod TailChecks

@@ -4,11 +4,12 @@ ghost use Rattle.std.specs.Prelude.{IfOk};
 ghost use Rattle.urb_group.specs.GroupCalls.{ComesUp, Commits, GoesDown, Takes, Ticks};
 ghost use Rattle.urb_group.specs.GroupViews.{Shows};
 ghost use Rattle.urb_group.specs.Step.{Crash, Fail, Restart, Submit, Tick};
+ghost use Rattle.urb_group.specs.internal.PlaceCalls.{SubmitsAt};
 ghost use Rattle.urb_group.specs.World.{started};
 
 use crate::Taken;
 use crate::node_moves::{
-    Node, commit_at, crash_at, fail_at, move_node, place_of, restart_at, submit_at, tick_at,
+    Node, commit_at, crash_at, fail_at, move_node, node_after, place_of, restart_at, tick_at,
 };
 use crate::shared_payloads::share_image;
 use std::alloc::{Allocator, Global};
@@ -76,9 +77,21 @@ impl<A: Allocator + Copy> Group<A> {
         let Some(at) = place_of(self.config, node) else {
             return Err(Refusal::BadNode);
         };
-        move_node(&mut self.nodes, at, |current| {
-            submit_at(current, alloc, client, number, payload)
-        })
+        move_node(
+            &mut self.nodes,
+            at,
+            |current|
+                ensures { SubmitsAt current
+                    (record { client = client; number = number; payload = payload.entry.now })
+                    result }
+            {
+                match current {
+                    Node::Ready(ready) => node_after(ready.submit(alloc, client, number, payload)),
+                    Node::Storing(storing) => (Node::Storing(storing), Err(Refusal::Busy)),
+                    Node::Down(down) => (Node::Down(down), Err(Refusal::Down)),
+                }
+            },
+        )
     }
 
     /// Takes the receipt for a draft: the node's store has kept the draft's record. The node goes

@@ -4,27 +4,33 @@
 //! Distributed Programming (second edition, 2011). Uniform FIFO order is that of V. Hadzilacos and
 //! S. Toueg, A Modular Approach to Fault-Tolerant Broadcasts and Related Problems (1994).
 
-ghost use Rattle.std.specs.Prelude.{◌≡◌, ◌+◌, ℕ, IsTrue, List, None, Some, [], false, length, true};
+ghost use Rattle.std.specs.Prelude.{◌≡◌, ◌+◌, ◌∷◌, ℕ, IsTrue, List, None, Option, Result, Some, []};
+ghost use Rattle.std.specs.Prelude.{false, length, suc, true};
 ghost use Rattle.urb_names.specs.CarriedPackets.{Carried};
 ghost use Rattle.std.specs.List.{AllByRecursion};
 ghost use Rattle.urb_names.specs.LabelsAndContents.{IsLimits, Limits, Label, Content};
+ghost use Rattle.urb_names.specs.Nodes.{is_node};
+ghost use Rattle.urb_names.specs.declared.refusal.PacketFault.{PacketFault};
 ghost use Rattle.urb_names.specs.declared.refusal.Refusal.{Refusal};
 ghost use Rattle.urb_stable.specs.Entries.{Entry};
 ghost use Rattle.urb_stable.specs.Fitting.{Fits};
 ghost use Rattle.urb_stable.specs.DeliveredLogs.{DeliversExactly};
 ghost use Rattle.urb_stable.specs.PlacedRecords.{Placed};
 ghost use Rattle.urb_stable.specs.StableStorage.{is_out_of_place};
+ghost use Rattle.urb_node.specs.Part.{Storing};
 ghost use Rattle.urb_node.specs.Replies.{Reply, Done, Same, Stored, Refused};
 ghost use Rattle.urb_node.specs.Steps.{says_heard};
 ghost use Rattle.urb_node.specs.declared.answer.Answer.TheVariants.{Accepted};
-ghost use Rattle.urb_group.specs.World.{World, AreImages, image_of, opened, started};
-ghost use Rattle.urb_group.specs.Step.{Event, Submit, Commit, step, Run, IsReached};
+ghost use Rattle.urb_node.specs.declared.cause.Cause.{Cause};
+ghost use Rattle.urb_group.specs.World.{World, AreImages, image_of, opened, started, stored};
+ghost use Rattle.urb_group.specs.Step.{Arrive, Event, Submit, Commit, step, Run, IsReached};
 ghost use Rattle.urb_group.specs.SafetyProperties.{Safe, OneMessage};
 ghost use Rattle.urb_group.specs.PromptAnswers.{answers_to};
 ghost use Rattle.urb_group.specs.TruthfulPackets.{AreTruthful, AllTruthful, ToldTruth};
 ghost use Rattle.urb_group.specs.RunMoments.{GoesOn, EntriesGrow, AgreeInTime};
 ghost use Rattle.urb_group.specs.Acceptance.{HasStored, StoresOwn};
-ghost use Rattle.urb_group.specs.ProcessStops.{SurvivesStop};
+ghost use Rattle.urb_group.specs.ProcessStops.{GoesOnIn, SurvivesStop};
+ghost use Rattle.urb_group.specs.StoresAhead.{IsAheadOf, MayLeaveAhead, SurvivesAhead};
 ghost use Rattle.urb_group.specs.GroupViews.{GroupView, Shows, IsSound};
 ghost use Rattle.urb_group.specs.GroupStores.{held_draft};
 ghost use Rattle.urb_group.specs.StoreContents.{IsStoreOf};
@@ -94,6 +100,13 @@ pub fn everything_grows()
 /// accepted under its name (recovery, sections 2.2 and 3.7).
 pub fn every_stop_is_survived()
     ensures { (w : World) → IsReached w → SurvivesStop w }
+{}
+
+/// The same, if the stores of some nodes hold more records than the group has counted as stored: a
+/// worker stores several records by one call, before the events that draft them. Each of these
+/// records must be one that may follow those before it (recovery, sections 2.2 and 3.7).
+pub fn every_stop_ahead_is_survived()
+    ensures { (w : World) → IsReached w → SurvivesAhead w }
 {}
 
 /// The log of any records is exactly what their certificates release. A name is delivered exactly
@@ -182,6 +195,39 @@ pub fn every_sound_groups_logs_agree()
         → Shows group old
         → Run old events replies new
         → EntriesGrow old new }
+{}
+
+/// The whole process may stop while the stores of some nodes hold records ahead of their events.
+/// Each node may be looked at in its own world that the group shows. What the stop leaves opens a
+/// group that goes on (recovery, sections 2.2 and 3.7).
+pub fn a_stop_of_all_nodes_ahead_is_survived()
+    ensures { (group : GroupView) (images : ℕ → List Entry)
+        → IsSound group
+        → ((p : ℕ) → (w : World) × Shows group w × MayLeaveAhead w p (images p))
+        → (w : World) × Shows group w × GoesOnIn w images }
+{}
+
+/// A node is ready, and its store holds records ahead. It drafts the first of them, by a submit or
+/// an arrival, and then gets that record's receipt. After that the store holds the others ahead. If
+/// none is ahead, the store is the node's.
+pub fn a_replay_keeps_its_store<S: Stable>()
+    ensures submit { (w : World) (p : ℕ) (m : Content) (r : Entry) (cause : Option Cause)
+        (tail : List Entry) (store : S)
+        → IsTrue (is_node w.size.n p)
+        → IsAheadOf S.Stable w p (r ∷ tail) store
+        → ((step w (Submit p m)).1.node p).state ≡ Storing r cause
+        → IsAheadOf S.Stable
+        (step (step w (Submit p m)).1 (Commit p (suc (length (stored w p))) r)).1 p tail store }
+    ensures arrive { (w : World) (p : ℕ) (bytes : Result Carried PacketFault) (r : Entry)
+        (cause : Option Cause) (tail : List Entry) (store : S)
+        → IsTrue (is_node w.size.n p)
+        → IsAheadOf S.Stable w p (r ∷ tail) store
+        → ((step w (Arrive p bytes)).1.node p).state ≡ Storing r cause
+        → IsAheadOf S.Stable
+        (step (step w (Arrive p bytes)).1 (Commit p (suc (length (stored w p))) r)).1 p tail store }
+    ensures ends { (w : World) (p : ℕ) (store : S)
+        → IsAheadOf S.Stable w p [] store
+        → IsStoreOf S.Stable (w.node p) store }
 {}
 
 /// The draft that a node holds is in place for the node's store, if the store is honest. No

@@ -8,6 +8,7 @@
 //! let mut group = Group::new(alloc, config)?;            // or Group::open(alloc, config, images)
 //! let taken = group.submit(alloc, node, client, number, payload)?;
 //! let done = group.commit(receipt)?;                     // or group.fail(doubt)
+//! let may = group.may_follow(node, &records);            // may a store keep these ahead?
 //! group.recall();                                        // states what holds of every group
 //!
 //! let mut cluster = Cluster::new(alloc, config, stores)?;  // a group with a store for each node
@@ -43,6 +44,8 @@ mod shared_payloads;
 pub mod starts;
 mod state;
 mod stores;
+mod tail_records;
+mod tail_rules;
 mod taken;
 pub mod worked;
 

@@ -1,14 +1,13 @@
 //! The nodes of a group, each in its place. A call moves a node to its next state, or leaves it.
 
 ghost use Rattle.std.specs.Prelude.{◌<◌, ◌≡◌, Some, length, slice_get, suc};
-ghost use Rattle.std.specs.Option.{ForSome, MatchOption};
-ghost use Rattle.urb_group.specs.internal.PlaceCalls.{ArrivesAt, CommitsAt, CrashesAt, FailsAt};
-ghost use Rattle.urb_group.specs.internal.PlaceCalls.{MayReach, MovesNode};
-ghost use Rattle.urb_group.specs.internal.PlaceCalls.{RestartsAt, SubmitsAt, TicksAt, after_step};
+ghost use Rattle.std.specs.Option.{MatchOption};
+ghost use Rattle.urb_group.specs.internal.PlaceCalls.{CommitsAt, CrashesAt, FailsAt, MovesNode};
+ghost use Rattle.urb_group.specs.internal.PlaceCalls.{RestartsAt, TicksAt, after_step};
 
 use crate::Taken;
 use std::alloc::{Allocator, Global};
-use urb_names::{ClientId, Config, Message, NoMemory, NodeId, PacketView, Payload, Refusal};
+use urb_names::{Config, Message, NoMemory, NodeId, Refusal};
 use urb_node::{Done, Down, Ready, Step, Storing};
 use urb_stable::{Receipt, Record};
 use urb_stubborn::Outbox;
@@ -49,8 +48,8 @@ pub(crate) fn move_node<N, T, A: Allocator, F: FnOnce(N) -> (N, T)>(
     told
 }
 
-// Returns the node after a ready node's step, with what the step gives.
-fn node_after<A: Allocator + Copy>(
+/// Returns the node after a ready node's step, with what the step gives.
+pub(crate) fn node_after<A: Allocator + Copy>(
     outcome: Result<Step<A>, (Ready<A>, Refusal)>,
 ) -> (Node<A>, Result<Taken<A>, Refusal>)
     ensures { result ≡ after_step outcome }
@@ -59,50 +58,6 @@ fn node_after<A: Allocator + Copy>(
         Ok(Step::Same(ready, answer)) => (Node::Ready(ready), Ok(Taken::Same(answer))),
         Ok(Step::Store(storing, draft)) => (Node::Storing(storing), Ok(Taken::Store(draft))),
         Err((ready, refusal)) => (Node::Ready(ready), Err(refusal)),
-    }
-}
-
-/// Applies a client's message to a node, which moves to its next state, or stays with a refusal.
-pub(crate) fn submit_at<A: Allocator + Copy>(
-    node: Node<A>,
-    alloc: A,
-    client: ClientId,
-    number: u32,
-    payload: &Payload<A>,
-) -> (Node<A>, Result<Taken<A>, Refusal>)
-    ensures { SubmitsAt node (record { client = client; number = number; payload = payload.now })
-        result }
-{
-    match node {
-        Node::Ready(ready) => node_after(ready.submit(alloc, client, number, payload)),
-        Node::Storing(storing) => (Node::Storing(storing), Err(Refusal::Busy)),
-        Node::Down(down) => (Node::Down(down), Err(Refusal::Down)),
-    }
-}
-
-/// Applies a packet that is for the node, which moves to its next state, or stays with a refusal.
-/// `known` is the packet's message, if it can be shared. `is_truthful` says whether the packet's
-/// source bears the packet out.
-pub(crate) fn arrive_at<A: Allocator + Copy>(
-    node: Node<A>,
-    alloc: A,
-    packet: PacketView<'_>,
-    known: Option<Message<A>>,
-    is_truthful: bool,
-) -> (Node<A>, Result<Taken<A>, Refusal>)
-    requires reach { MayReach node packet is_truthful }
-    requires known { ForSome known (λ m. m ≡ packet.message) }
-    ensures { ArrivesAt node packet.entry is_truthful result }
-{
-    match node {
-        Node::Ready(ready) => {
-            if !is_truthful {
-                return (Node::Ready(ready), Err(Refusal::Forged));
-            }
-            node_after(ready.arrive(alloc, packet, known))
-        }
-        Node::Storing(storing) => (Node::Storing(storing), Err(Refusal::Busy)),
-        Node::Down(down) => (Node::Down(down), Err(Refusal::Down)),
     }
 }
 

@@ -10,7 +10,7 @@ ghost use Rattle.urb_group.specs.internal.PacketTargets.{AreEnds, HoldsPair, IsA
 ghost use Rattle.urb_group.specs.internal.PacketTargets.{is_for_node};
 ghost use Rattle.urb_group.specs.Step.{Arrive};
 
-use crate::node_moves::{Node, arrive_at, move_node, place_of};
+use crate::node_moves::{Node, move_node, node_after, place_of};
 use crate::{Group, Taken};
 use std::alloc::Allocator;
 use urb_names::{Config, Message, NodeId, PacketView, Refusal, parse};
@@ -105,7 +105,18 @@ impl<A: Allocator + Copy> Group<A> {
                 requires { MayReach current packet is_truthful
                     × ForSome known (λ m. m ≡ packet.message) }
                 ensures { ArrivesAt current packet.entry is_truthful result }
-            { arrive_at(current, alloc, packet, known, is_truthful) },
+            {
+                match current {
+                    Node::Ready(ready) => {
+                        if !is_truthful {
+                            return (Node::Ready(ready), Err(Refusal::Forged));
+                        }
+                        node_after(ready.arrive(alloc, packet, known))
+                    }
+                    Node::Storing(storing) => (Node::Storing(storing), Err(Refusal::Busy)),
+                    Node::Down(down) => (Node::Down(down), Err(Refusal::Down)),
+                }
+            },
         )
     }
 }

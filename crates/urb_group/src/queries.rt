@@ -58,8 +58,8 @@ impl<A: Allocator + Copy> Node<A> {
         }
     }
 
-    // Returns how many messages of its own the node has stored.
-    fn own_len(&self) -> u32
+    /// Returns how many messages of its own the node has stored.
+    pub(crate) fn own_len(&self) -> u32
         ensures { CountsOwnAt (ShowsAt self.now) result }
     {
         match self {

@@ -8,6 +8,7 @@ mod images;
 mod plays;
 mod starts;
 mod stops;
+mod tails;
 
 use urb_group::{ClientId, Config, Name, NodeId};
 

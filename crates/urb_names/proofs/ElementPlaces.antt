@@ -11,12 +11,7 @@ use Rattle.urb_names.specs.Names.{name_lt, same_name}
 use Rattle.urb_names.specs.RisingLists.{is_rising, placed, reserved_for}
 use Rattle.urb_names.proofs.RisingPairs.{name_lt-trans, name_lt-one_way}
 use Rattle.urb_names.proofs.SameNames.{same_name-true}
-
-or_swap : (a b c : Bool) → (a || (b || c)) ≡ (b || (a || c))
-or_swap true true c = refl
-or_swap true false c = refl
-or_swap false true c = refl
-or_swap false false c = refl
+use Rattle.urb_names.proofs.TruthValues.{or_swap}
 
 -- wherever an element is inserted, the test sees exactly one more element
 pub any_insert : {X : Type 0} (test : X → Bool) (xs : List X) (i : ℕ) (x : X)

@@ -23,3 +23,4 @@ pub mod LogRows
 pub mod RisingPairs
 pub mod SameNames
 pub mod SentPairs
+pub mod TruthValues

@@ -15,6 +15,7 @@ use Rattle.urb_names.specs.Names.{has_name, name, names, same_name}
 use Rattle.urb_names.specs.LabelsAndContents.{Label}
 use Rattle.urb_names.specs.Nodes.{numbers_from}
 use Rattle.urb_names.specs.Release.{beginning, part_of, released}
+use Rattle.urb_names.proofs.SentPairs.{all_kept_filter}
 
 -- a sender's names a, a + 1, ..
 abbrev pub row : ℕ → ℕ → ℕ → List Label
@@ -247,16 +248,6 @@ row-distinct s a (suc k) = (apart (suc a) k (omega arith), row-distinct s (suc a
     apart b zero h = tt
     apart b (suc l) h = (same_row_name s a b (λ e. omega arith), apart (suc b) l (omega arith))
 
-all_filter : {X : Type 0} (P : X → Type 0) (test : X → Bool) (xs : List X) → AllByRecursion P xs
-    → AllByRecursion P (filter test xs)
-all_filter P test [] h = tt
-all_filter P test (x ∷ xs) h = kept (all_filter P test xs h.1) (test x)
-  where
-    kept : AllByRecursion P (filter test xs) → (b : Bool)
-        → AllByRecursion P (cond b (x ∷ filter test xs) (filter test xs))
-    kept ih true = (h.0, ih)
-    kept ih false = ih
-
 distinct_filter : (test : Label → Bool) (xs : List Label) → IsDistinct same_name xs
     → IsDistinct same_name (filter test xs)
 unfolding IsDistinct
@@ -265,7 +256,7 @@ distinct_filter test (x ∷ xs) h = kept (distinct_filter test xs h.1) (test x)
   where
     kept : IsDistinct same_name (filter test xs) → (b : Bool)
         → IsDistinct same_name (cond b (x ∷ filter test xs) (filter test xs))
-    kept ih true = (all_filter _ test xs h.0, ih)
+    kept ih true = (all_kept_filter _ test xs h.0, ih)
     kept ih false = ih
 
 passes_filter : {X : Type 0} (test : X → Bool) (xs : List X)

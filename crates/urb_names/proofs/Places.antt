@@ -1,6 +1,7 @@
--- The element at a place of a list, from 0.
+-- The element at a place of a list, from 0, and numbers in a row.
 use Rattle.std.proofs.Common.{List, None, Some, [], ap, ap₂, arith, drop, length, refl, slice_get}
-use Rattle.std.proofs.Common.{suc, zero, ℕ, ◌++◌, ◌<◌, ◌∷◌, ◌≡◌, ◌≤◌}
+use Rattle.std.proofs.Common.{suc, zero, ℕ, ◌++◌, ◌+◌, ◌<◌, ◌∙◌, ◌∷◌, ◌≡◌, ◌≤◌}
+use Rattle.urb_names.specs.Nodes.{numbers_from}
 
 -- there is no element at a place past the end
 pub get_none : {A : Type 0} (xs : List A) (j : ℕ) → length xs ≤ j → slice_get xs j ≡ None
@@ -21,6 +22,18 @@ pub get_front : {A : Type 0} (xs ys : List A) (j : ℕ) → j < length xs
 get_front [] ys j h = absurd (omega arith)
 get_front (x ∷ xs) ys zero h = refl
 get_front (x ∷ xs) ys (suc j) h = get_front xs ys j (omega arith)
+
+-- an element stays at its place when others are added after the list
+pub get_stays : {A : Type 0} (xs ys : List A) (j : ℕ) (a : A) → slice_get xs j ≡ Some a
+    → slice_get (xs ++ ys) j ≡ Some a
+get_stays [] ys j a e = absurd cc
+get_stays (x ∷ xs) ys zero a e = e
+get_stays (x ∷ xs) ys (suc j) a e = get_stays xs ys j a e
+
+-- one more element makes a list longer by one
+pub one_longer : {A : Type 0} (xs : List A) (y : A) → length (xs ++ y ∷ []) ≡ suc (length xs)
+one_longer [] y = refl
+one_longer (x ∷ xs) y = ap suc (one_longer xs y)
 
 -- the element that is put last stands at the place after all others
 pub get_last : {A : Type 0} (xs : List A) (y : A) (j : ℕ) → j ≡ length xs
@@ -56,3 +69,19 @@ same_at_each (x ∷ xs) [] h = (let e = h 0 in cc)
 same_at_each (x ∷ xs) (y ∷ ys) h =
     (let e : Some x ≡ Some y = h 0 in let f : x ≡ y = cc in
     ap₂ (λ z zs. z ∷ zs) f (same_at_each xs ys (λ j. h (suc j))))
+
+-- ---- numbers in a row
+
+-- one number more in a row is put last
+pub numbers_more : (first count : ℕ)
+    → numbers_from first (suc count) ≡ numbers_from first count ++ (first + count) ∷ []
+numbers_more first zero = ap (λ n. n ∷ []) (at first)
+  where
+    at : (n : ℕ) → n ≡ n + 0
+    at n = omega arith
+numbers_more first (suc count) =
+    ap (λ ns. first ∷ ns) (numbers_more (suc first) count
+    ∙ ap (λ n. numbers_from (suc first) count ++ n ∷ []) (at first count))
+  where
+    at : (a b : ℕ) → suc a + b ≡ a + suc b
+    at a b = omega arith

@@ -57,6 +57,10 @@ name_lt-other_way x y e = go (cases_Bool (name_lt y x))
     go (inl f) = absurd (both (before x y e) (before y x f))
     go (inr f) = f
 
+-- no name comes before itself
+pub name_lt-strict : (x : Label) → name_lt x x ≡ false
+name_lt-strict x = ⊎_elim (λ e. name_lt-other_way x x e) (λ e. e) (cases_Bool (name_lt x x))
+
 -- of two different names, one comes before the other
 pub name_lt-one_way : (x y : Label) → same_name x y ≡ false
     → (name_lt x y ≡ true) ⊎ (name_lt y x ≡ true)

@@ -32,7 +32,8 @@ all_map : {X Y : Type 0} (P : Y → Type 0) (f : X → Y) (xs : List X) → ((x 
 all_map P f [] h = tt
 all_map P f (x ∷ xs) h = (h x, all_map P f xs h)
 
-all_kept_filter : {X : Type 0} (P : X → Type 0) (test : X → Bool) (xs : List X)
+-- what holds of all elements holds of those that pass a test
+pub all_kept_filter : {X : Type 0} (P : X → Type 0) (test : X → Bool) (xs : List X)
     → AllByRecursion P xs → AllByRecursion P (filter test xs)
 all_kept_filter P test [] h = tt
 all_kept_filter P test (x ∷ xs) h =

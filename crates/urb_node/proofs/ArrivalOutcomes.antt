@@ -1,7 +1,7 @@
 -- The outcome of a packet in a memory is the definition's for every node that the memory shows.
 use Rattle.std.proofs.Common.{◌≡◌, ◌≢◌, ℕ, zero, suc, ◌≤◌, Bool, true, false, not, ◌||◌, ◌&&◌, ◌==◌}
 use Rattle.std.proofs.Common.{List, [], ◌∷◌, count_by, Option, Some, None, is_none, refl, sym, ap}
-use Rattle.std.proofs.Common.{◌∙◌, subst, arith, ne_eqb, eq-eqb, eqb-true}
+use Rattle.std.proofs.Common.{◌∙◌, subst, arith, ne_eqb}
 use Rattle.std.specs.Prelude.{if◌then◌else◌}
 use Rattle.urb_names.specs.LabelsAndContents.{Label, Content}
 use Rattle.urb_names.specs.Names.{has_name, same_name}
@@ -32,18 +32,9 @@ use Rattle.urb_node.proofs.MemoryChanges.{counted-shows, heard-shows}
 use Rattle.urb_node.specs.declared.cause.Cause.{Cause}
 use Rattle.urb_node.proofs.SubmitOutcomes.{drafts-says}
 use Rattle.urb_node.proofs.OutcomeAgreement.{Says}
+use Rattle.urb_names.proofs.TruthValues.{eqb-turned}
 
 -- ---- two nodes
-
-turned : (a b : ℕ) → (a == b) ≡ (b == a)
-turned a b = at (a == b) refl
-  where
-    at : (c : Bool) → (a == b) ≡ c → (a == b) ≡ (b == a)
-    at true e = e ∙ sym (eq-eqb b a (sym (eqb-true a b e)))
-    at false e = e ∙ sym (ne_eqb b a (λ f. no (e ∙ refl) (sym f)))
-      where
-        no : (a == b) ≡ false → a ≡ b → ⊥
-        no g h = (let w : true ≡ false = sym (eq-eqb a b h) ∙ g in cc)
 
 none_pass : (first count : ℕ) → count_by (λ (q : ℕ). false) (numbers_from first count) ≡ 0
 none_pass first zero = refl
@@ -66,7 +57,7 @@ two-majority n p q apart pl pu ql qu = ap (λ (count : ℕ). is_majority count n
     two : count_by (λ z. (z == p) || (z == q)) (nodes n) ≡ 2
     two =
         count_alike (λ z. (z == p) || (z == q)) (λ z. (p == z) || ((q == z) || false)) 1 n
-        (λ z l u. either (z == p) (z == q) (p == z) (q == z) (turned z p) (turned z q))
+        (λ z l u. either (z == p) (z == q) (p == z) (q == z) (eqb-turned z p) (eqb-turned z q))
         ∙ (count_one_more (λ z. (q == z) || false) 1 n p pl (omega arith)
         (ap (λ b. b || false) (ne_eqb q p (λ e. apart (sym e))))
         ∙ ap suc (count_one_more (λ z. false) 1 n q ql (omega arith) refl ∙ ap suc (none_pass 1 n)))

@@ -1,7 +1,7 @@
 -- What an image says about a memory, with and without a doubtful record.
 use Rattle.std.proofs.Common.{◌≡◌, ◌∙◌, ◌≤◌, Bool, List, None, Option, Some, [], ap, ap₂, arith}
 use Rattle.std.proofs.Common.{false, length, refl, subst, suc, sym, true, ℕ, ◌&&◌, ◌+◌, ◌++◌, ◌==◌}
-use Rattle.std.proofs.Common.{◌∷◌, ◌||◌, lt-ltb, nat_lt, ⊎_elim}
+use Rattle.std.proofs.Common.{add-one, lt-ltb, nat_lt, ⊎_elim, ◌||◌, ◌∷◌}
 use Rattle.std.specs.Bool.{MatchBool}
 use Rattle.std.specs.List.{list_all}
 use Rattle.std.specs.Option.{ForSome}
@@ -41,7 +41,8 @@ range_is size x h =
     let seq = ltb-true x.seq (suc size.cap) parts.1 in
     (omega arith, omega arith)
 
-in_range_is : (size : Limits) (x : Label) → x.sender ≤ size.n → x.seq ≤ size.cap
+-- a name within the limits is in their range
+pub in_range_is : (size : Limits) (x : Label) → x.sender ≤ size.n → x.seq ≤ size.cap
     → in_range size x ≡ true
 in_range_is size x sender seq =
     and_from (nat_lt x.sender (suc size.n)) _ (lt-ltb x.sender (suc size.n) (omega arith))
@@ -53,7 +54,7 @@ next_in_range a (Pend x m) next = (and_parts (in_range a.limits x) _ next.new).0
 next_in_range a (PendCert x m) next = (and_parts (in_range a.limits x) _ next.new).0
 next_in_range a (Cert x) next = (and_parts (in_range a.limits x) _ next.new).0
 
--- the name of a record that may come next is one that the group may have
+-- the name of a record that may come next is add-one that the group may have
 pub next_range : (a : Memory) (r : Entry) → IsNextIn a r
     → ((name_of r).sender ≤ a.limits.n) × ((name_of r).seq ≤ a.limits.cap)
 next_range a r next = range_is a.limits (name_of r) (next_in_range a r next)
@@ -152,9 +153,6 @@ moved image pairs x m certified delivered count =
         ∙ (behind (has_pair pairs y o) (same_name x y && same_message m o)
         ∙ sym (has_pair-inserted (x, m) pairs y o))
 
-one : (n : ℕ) → n + 1 ≡ suc n
-one n = omega arith
-
 none_more : (pairs : List (Label × Content)) → pairs ++ [] ≡ pairs
 none_more [] = refl
 none_more (pair ∷ pairs) = ap (λ ps. pair ∷ ps) (none_more pairs)
@@ -166,16 +164,16 @@ pub told_with : (a : Memory) (r : Entry) (image : List Entry)
     ≡ tells image (with_record a r None).pairs (with_record a r None).certified
     (with_record a r None).log (with_record a r None).count
 told_with a (Pend x m) image =
-    ap (tells image (a.pairs ++ (x, m) ∷ []) a.certified a.log) (one a.count)
+    ap (tells image (a.pairs ++ (x, m) ∷ []) a.certified a.log) (add-one a.count)
     ∙ moved image a.pairs x m a.certified a.log (suc a.count)
 told_with a (PendCert x m) image =
     ap (tells image (a.pairs ++ (x, m) ∷ []) (certified_by a.certified (Some (Cert x)))
-    (delivered_by a.log a.certified (Some (Cert x)))) (one a.count)
+    (delivered_by a.log a.certified (Some (Cert x)))) (add-one a.count)
     ∙ moved image a.pairs x m (certified_by a.certified (Some (Cert x)))
     (delivered_by a.log a.certified (Some (Cert x))) (suc a.count)
 told_with a (Cert x) image =
     ap₂ (λ pairs count. tells image pairs (certified_by a.certified (Some (Cert x)))
-    (delivered_by a.log a.certified (Some (Cert x))) count) (none_more a.pairs) (one a.count)
+    (delivered_by a.log a.certified (Some (Cert x))) count) (none_more a.pairs) (add-one a.count)
 
 -- whether it says that, if the layers hold these
 pub joined_decides : {A : Type 0} (h : Held A) (doubt : Option Entry) (r : Entry)

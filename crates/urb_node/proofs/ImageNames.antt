@@ -12,13 +12,13 @@ use Rattle.urb_names.proofs.OrderedPairs.{rises-same, rising-rises}
 use Rattle.urb_names.proofs.CertificateReaches.{reversed-back, reversed-same}
 use Rattle.urb_names.proofs.SameNames.{same_name-same, same_name-true}
 use Rattle.urb_fifo.specs.Delivery.{Delivery, IsDelivery, IsReleaseOf}
-use Rattle.urb_stable.proofs.OwnRules.{both_ways}
 use Rattle.urb_stable.specs.Entries.{Entry}
 use Rattle.urb_stable.specs.DeliveredLogs.{log}
 use Rattle.urb_stable.specs.Records.{cert}
 use Rattle.urb_node.specs.Steps.{same_list, same_names}
 use Rattle.urb_node.proofs.ShownNodes.{all_named, from_named}
 use Rattle.urb_node.proofs.HoldableDrafts.{paired_rising}
+use Rattle.urb_names.proofs.TruthValues.{both_ways}
 
 -- ---- lists of names
 

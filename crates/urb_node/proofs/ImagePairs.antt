@@ -1,7 +1,7 @@
 -- Records and pairs: what an image says about pairs, record by record.
 use Rattle.std.proofs.Common.{◌≡◌, ◌∙◌, Bool, List, None, Some, [], ap, false, refl, sym, true, ℕ}
 use Rattle.std.proofs.Common.{◌&&◌, ◌++◌, ◌∷◌, ◌||◌, ◌<◌, drop, length, reverse, slice_get, suc}
-use Rattle.std.proofs.Common.{take, zero, arith, ◌+◌, ◌==◌}
+use Rattle.std.proofs.Common.{add-one, take, zero, ◌+◌, ◌==◌}
 use Rattle.std.specs.List.{list_all}
 use Rattle.std.proofs.lemmas.Bool.{or_left}
 use Rattle.std.proofs.lemmas.List.{map-append, reverse-append, take-append-drop}
@@ -53,16 +53,13 @@ pub all_from : {X : Type 0} (test : X → Bool) (xs : List X) (i : ℕ) (x : X)
     ≡ (test x && list_all test (drop (suc i) xs))
 all_from test xs i x e = ap (list_all test) (drop_get xs i x e)
 
-next : (i : ℕ) → i + 1 ≡ suc i
-next i = omega arith
-
 -- if those from a place on decide whether all pass, and the one there passes, those behind it
 -- decide
 pub one_more : {X : Type 0} (test : X → Bool) (xs : List X) (i : ℕ) (x : X)
     → slice_get xs i ≡ Some x → test x ≡ true → list_all test (drop i xs) ≡ list_all test xs
     → list_all test (drop (i + 1) xs) ≡ list_all test xs
 one_more test xs i x e passes so_far =
-    ap (λ j. list_all test (drop j xs)) (next i)
+    ap (λ j. list_all test (drop j xs)) (add-one i)
     ∙ sym (ap (λ b. b && list_all test (drop (suc i) xs)) passes)
     ∙ (sym (all_from test xs i x e) ∙ so_far)
 
@@ -115,7 +112,7 @@ pub certified_to : (image : List Entry) (i : ℕ) (r : Entry) → slice_get imag
     → reverse (cert (take (i + 1) image)) ≡ cert (r ∷ []) ++ reverse (cert (take i image))
 certified_to image i r got =
     ap (λ records. reverse (cert records))
-    (ap (λ j. take j image) (next i) ∙ take_get image i r got)
+    (ap (λ j. take j image) (add-one i) ∙ take_get image i r got)
     ∙ (ap reverse (cert-append (take i image) (r ∷ []))
     ∙ (reverse-append (cert (take i image)) (cert (r ∷ []))
     ∙ ap (λ names. names ++ reverse (cert (take i image))) (few r)))
@@ -147,7 +144,7 @@ counted_more acks new p pairs i pair before got is so_far x q =
         ≡ (acked (self_acks p (take i pairs)) x q || ((same_name pair.0 x && (p == q)) || false))
     last =
         ap (λ ps. acked (self_acks p ps) x q)
-        (ap (λ j. take j pairs) (next i) ∙ take_get pairs i pair got)
+        (ap (λ j. take j pairs) (add-one i) ∙ take_get pairs i pair got)
         ∙ (ap (λ counted. acked counted x q)
         (map-append (λ (w : Label × Content). (w.0, p)) (take i pairs) (pair ∷ []))
         ∙ list_any-append (λ ack. same_name ack.0 x && (ack.1 == q)) (self_acks p (take i pairs))

@@ -20,6 +20,7 @@ use Rattle.urb_stable.specs.Fitting.{KeepsOwn, in_range, is_in_turn, is_new_to, 
 use Rattle.urb_stable.specs.Fitting.{keeps_a, keeps_b}
 use Rattle.urb_stable.specs.Records.{cert, pend}
 use Rattle.urb_stable.specs.declared.record.Record.TheVariants.{Cert, Pend, PendCert}
+use Rattle.urb_node.proofs.ImageComparisons.{in_range_is}
 
 -- ---- new names
 
@@ -73,12 +74,6 @@ submit-next size p pairs certified m is room number fresh =
         (eq-eqb (suc (length (own p pairs))) (suc (length (own p pairs))) refl)
         (eq-eqb m.number _ number)
 
-range-from : (size : Limits) (x : Label) → x.sender ≤ size.n → x.seq ≤ size.cap
-    → in_range size x ≡ true
-range-from size x s q =
-    and_from (nat_lt x.sender (suc size.n)) _ (lt-ltb x.sender (suc size.n) (omega arith))
-    (lt-ltb x.seq (suc size.cap) (omega arith))
-
 -- An arrival's draft: the name is not pending. So it is not the node's own, because an own name
 -- comes only with the message that is pending.
 pub arrival-next : (size : Limits) (p : ℕ) (pairs : List (Label × Content)) (certified : List Label)
@@ -88,7 +83,7 @@ arrival-next size p pairs certified x m may fresh =
     (record { new = new; in_turn = in_turn }, record { new = new; in_turn = in_turn })
   where
     new : (in_range size x && is_none (message_of pairs x)) ≡ true
-    new = and_from (in_range size x) _ (range-from size x may.sender may.seq) (ap is_none fresh)
+    new = and_from (in_range size x) _ (in_range_is size x may.sender may.seq) (ap is_none fresh)
 
     other : (x.sender == p) ≡ false
     other =
@@ -106,7 +101,7 @@ pub certificate-next : (size : Limits) (p : ℕ) (pairs : List (Label × Content
 certificate-next size p pairs certified x s q pending open_ =
     record {
       new =
-          and_from (in_range size x) _ (range-from size x s q)
+          and_from (in_range size x) _ (in_range_is size x s q)
           (and_from (is_some (message_of pairs x)) _ pending (ap not open_));
       in_turn = refl;
     }

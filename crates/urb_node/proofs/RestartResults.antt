@@ -25,6 +25,7 @@ use Rattle.urb_node.proofs.JoinedMemory.{SaysMore}
 use Rattle.urb_node.proofs.RecordOutcomes.{IsFirst, IsReleased, record-acks, record-more}
 use Rattle.urb_node.proofs.RecordOutcomes.{same_limits}
 use Rattle.urb_node.proofs.ShownNodes.{acked-with}
+use Rattle.urb_names.proofs.TruthValues.{or_swap}
 
 -- ---- what is stored
 
@@ -44,11 +45,6 @@ stored-leads a doubt image acks nothing told counted = (
 
 -- ---- what is stored, followed by the doubtful record
 
-turned : (a b c : Bool) → (a || (b || c)) ≡ (b || (a || c))
-turned true true c = refl
-turned true false c = refl
-turned false b c = refl
-
 -- a node's own acknowledgement of one more pair
 acked-inserted : (p : ℕ) (x : Label) (m : Content) (pairs : List (Label × Content)) (y : Label)
     (z : ℕ) → acked (self_acks p (inserted (x, m) pairs)) y z
@@ -63,7 +59,7 @@ acked-inserted p x m (w ∷ pairs) y z = at (acked-inserted p x m pairs y z) (na
         || ((same_name w.0 y && (p == z)) || acked (self_acks p pairs) y z))
     at ih true =
         ap (λ b. (same_name w.0 y && (p == z)) || b) ih
-        ∙ turned (same_name w.0 y && (p == z)) (same_name x y && (p == z))
+        ∙ or_swap (same_name w.0 y && (p == z)) (same_name x y && (p == z))
         (acked (self_acks p pairs) y z)
     at ih false = refl
 

@@ -17,11 +17,12 @@ use Rattle.urb_names.specs.Pairs.{has_pair, message_of, own}
 use Rattle.urb_node.specs.Part.{Node, own_acks, self_acks}
 use Rattle.urb_node.specs.NodeViews.{NodeView, ShowsNode}
 use Rattle.urb_node.specs.Steps.{next_position, same_list, same_names, same_pairs, says, tells}
-use Rattle.urb_stable.proofs.OwnRules.{both_ways, own-unique}
+use Rattle.urb_stable.proofs.OwnRules.{own-unique}
 use Rattle.urb_stable.proofs.RisingRecords.{own-records, rising-records}
 use Rattle.urb_stable.specs.Entries.{Entry}
 use Rattle.urb_stable.specs.DeliveredLogs.{log}
 use Rattle.urb_stable.specs.Records.{cert, pend}
+use Rattle.urb_names.proofs.TruthValues.{both_ways}
 
 -- ---- pairs
 

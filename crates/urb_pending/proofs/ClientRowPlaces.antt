@@ -10,6 +10,7 @@ use Rattle.urb_names.proofs.Places.{get_none}
 use Rattle.urb_names.specs.RisingLists.{placed}
 use Rattle.urb_names.proofs.ElementPlaces.{IsStrictOrder, rising_placed, placed_behind, placed_front}
 use Rattle.urb_pending.specs.internal.ClientRows.{Row, row_lt, row_of, are_in_order}
+use Rattle.urb_window.proofs.BinarySearches.{one_more}
 
 -- whether a row comes before a client's place
 abbrev pub stands_before : ℕ → Row → Bool
@@ -25,9 +26,6 @@ lt_trans a b c e f = lt-ltb a c (omega (arith, ltb-true a b e, ltb-true b c f))
 not_same : (a b : ℕ) → nat_lt a b ≡ true → (a == b) ≡ false
 not_same a b e =
     ne_eqb a b (λ f. (let l : a < b = ltb-true a b e in let no : ⊥ = omega arith in no))
-
-one_more : (n : ℕ) → suc n ≡ 1 + n
-one_more n = omega arith
 
 all_at : (test : Row → Bool) (rows : List Row) (j : ℕ) (d : Row) → list_all test rows ≡ true
     → j < length rows → test (get_or rows j d) ≡ true

@@ -12,6 +12,7 @@ use Rattle.urb_names.specs.LabelsAndContents.{Content}
 use Rattle.urb_names.specs.Pairs.{is_numbered, next_number}
 use Rattle.urb_pending.specs.internal.ClientRows.{Row}
 use Rattle.urb_pending.specs.internal.ClientIndex.{IsIndexOf, given_to, nth, place_given}
+use Rattle.urb_names.proofs.TruthValues.{eqb-turned}
 
 -- the place, from 1, of the first message that passes
 abbrev first_place : (Content → Bool) → List Content → Option ℕ
@@ -111,13 +112,6 @@ counts_grow ms m client =
     at : (n : ℕ) → 0 + n ≡ n
     at n = omega arith
 
-turned : (a b : ℕ) → (a == b) ≡ (b == a)
-turned a b = at (a == b) refl
-  where
-    at : (c : Bool) → (a == b) ≡ c → c ≡ (b == a)
-    at true e = sym (eq-eqb b a (sym (eqb-true a b e)))
-    at false e = sym (ne_eqb b a (λ f. eqb-false a b e (sym f)))
-
 -- the numbers that client c has once this client has this number too
 abbrev pub with_given : ℕ → ℕ → List Row → ℕ → List ℕ
 with_given client seq rows c = cond (c == client) (given_to c rows ++ seq ∷ []) (given_to c rows)
@@ -133,7 +127,7 @@ index_grows ms m rows new h e given = record { counts = counts; finds = finds }
     counts c =
         ap length (given c)
         ∙ (at (c == m.client)
-        ∙ (ap₂+ (h.counts c) (ap (λ b. cond b 1 0) (turned c m.client)) ∙ sym (counts_grow ms m c)))
+        ∙ (ap₂+ (h.counts c) (ap (λ b. cond b 1 0) (eqb-turned c m.client)) ∙ sym (counts_grow ms m c)))
       where
         ap₂+ : {a b p q : ℕ} → a ≡ b → p ≡ q → a + p ≡ b + q
         ap₂+ f g = omega (arith, f, g)
@@ -160,7 +154,7 @@ index_grows ms m rows new h e given = record { counts = counts; finds = finds }
         at true f =
             ap (λ b. option_or (nth (given_to c rows) number)
             (cond (b && (m.number == number)) (Some (suc (length ms))) None))
-            (turned m.client c ∙ f)
+            (eqb-turned m.client c ∙ f)
             ∙ (ap (λ n. option_or (nth (given_to c rows) number)
             (cond (n == number) (Some (suc (length ms))) None)) next
             ∙ sym (nth_push (given_to c rows) (suc (length ms)) number))
@@ -172,7 +166,7 @@ index_grows ms m rows new h e given = record { counts = counts; finds = finds }
         at false f =
             ap (λ b. option_or (nth (given_to c rows) number)
             (cond (b && (m.number == number)) (Some (suc (length ms))) None))
-            (turned m.client c ∙ f)
+            (eqb-turned m.client c ∙ f)
             ∙ or_none (nth (given_to c rows) number)
 
 -- an index with the same numbers is an index of the same messages

@@ -1,17 +1,13 @@
 -- Pairs in rising order, and one more among them.
 use Rattle.std.proofs.Common.{◌≡◌, ℕ, suc, ◌+◌, Bool, true, false, cond, List, [], ◌∷◌, None, Some}
-use Rattle.std.proofs.Common.{refl, sym, ap, ◌∙◌, inl, inr, ◌⊎◌, ⊎_elim, subst, arith}
+use Rattle.std.proofs.Common.{refl, sym, ap, ◌∙◌, inl, inr, ◌⊎◌, subst, arith}
 use Rattle.std.specs.List.{list_all, insert, prefix_len}
-use Rattle.std.proofs.lemmas.Bool.{and_parts, and_from, cases_Bool, cond-true, cond-false}
+use Rattle.std.proofs.lemmas.Bool.{and_parts, and_from, cond-true, cond-false}
 use Rattle.urb_names.specs.LabelsAndContents.{Label, Content}
 use Rattle.urb_names.specs.Names.{name_lt, same_name}
 use Rattle.urb_names.specs.Pairs.{message_of}
 use Rattle.urb_names.specs.CyclicOrder.{are_rising, inserted}
 use Rattle.urb_names.proofs.RisingPairs.{name_lt-trans, name_lt-other_way, name_lt-one_way}
-
--- no name comes before itself
-pub not_before_itself : (x : Label) → name_lt x x ≡ false
-not_before_itself x = ⊎_elim (λ e. name_lt-other_way x x e) (λ e. e) (cases_Bool (name_lt x x))
 
 -- a pair is inserted after those that come before it
 pub inserted_at : (p : Label × Content) (ps : List (Label × Content))

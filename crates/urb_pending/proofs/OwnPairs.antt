@@ -13,8 +13,8 @@ use Rattle.urb_names.specs.Release.{part_of}
 use Rattle.urb_names.specs.Pairs.{own, message_of}
 use Rattle.urb_names.specs.CyclicOrder.{are_rising, inserted}
 use Rattle.urb_names.proofs.SameNames.{same_name-true}
-use Rattle.urb_names.proofs.RisingPairs.{name_lt-trans}
-use Rattle.urb_pending.proofs.InsertedPairs.{not_before_itself}
+use Rattle.urb_names.proofs.RisingPairs.{name_lt-strict, name_lt-trans}
+use Rattle.urb_names.proofs.Places.{numbers_more}
 
 -- whether a pair is this sender's
 abbrev pub is_of : ℕ → Label × Content → Bool
@@ -127,7 +127,7 @@ new_behind x (q ∷ qs) h = at (new_behind x qs) (same_name q.0 x) refl
         → list_all (λ r. name_lt r.0 x) (cond b (q ∷ mine x.sender qs) (mine x.sender qs)) ≡ true
         → ⊥
     not_here e true f l =
-        false≢true (sym (not_before_itself x)
+        false≢true (sym (name_lt-strict x)
         ∙ subst (λ (y : Label). name_lt y x ≡ true) e (and_parts (name_lt q.0 x) _ l).0)
     not_here e false f l =
         false≢true (sym f ∙ eq-eqb q.0.sender x.sender (ap (λ (y : Label). y.sender) e))
@@ -138,20 +138,6 @@ new_behind x (q ∷ qs) h = at (new_behind x qs) (same_name q.0 x) refl
     at ih false e = ih (further (q.0.sender == x.sender) h)
 
 -- ---- the sender's own names are numbered 1, 2, 3, ..
-
--- one number more in a row is put last
-pub numbers_more : (first count : ℕ)
-    → numbers_from first (suc count) ≡ numbers_from first count ++ (first + count) ∷ []
-numbers_more first zero = ap (λ n. n ∷ []) (at first)
-  where
-    at : (n : ℕ) → n ≡ n + 0
-    at n = omega arith
-numbers_more first (suc count) =
-    ap (λ ns. first ∷ ns) (numbers_more (suc first) count
-    ∙ ap (λ n. numbers_from (suc first) count ++ n ∷ []) (at first count))
-  where
-    at : (m n : ℕ) → suc m + n ≡ m + suc n
-    at m n = omega arith
 
 -- a sender's names up to the next number are the earlier ones, then the next
 pub names_more : (s count : ℕ) → names s (count + 1) ≡ names s count ++ name s (count + 1) ∷ []

@@ -19,7 +19,7 @@ use Rattle.urb_names.proofs.SameNames.{same_message-same, same_message-true, sam
 use Rattle.urb_names.proofs.SameNames.{same_name-true}
 use Rattle.urb_window.specs.Entries.{low_of, names_of, value_of}
 use Rattle.urb_pending.specs.PendingSet.{PendingSet, IsPendingSet, first_name}
-use Rattle.urb_pending.proofs.InsertedPairs.{not_before_itself}
+use Rattle.urb_names.proofs.RisingPairs.{name_lt-strict}
 
 -- the value under a name is its message
 pub value_is : (ps : List (Label × Content)) (x : Label) → value_of ps x ≡ message_of ps x
@@ -44,7 +44,7 @@ none_later x m (p ∷ ps) h =
 
     differ : (b : Bool) → same_name p.0 x ≡ b → (b && same_message p.1 m) ≡ false
     differ true e =
-        absurd (false≢true (sym (not_before_itself x)
+        absurd (false≢true (sym (name_lt-strict x)
         ∙ (ap (name_lt x) (sym (same_name-true p.0 x e)) ∙ parts.0)))
     differ false e = refl
 
@@ -102,7 +102,8 @@ take_each test (y ∷ ys) h =
     (h y (or_left (same_name y y) _ (same_name-same y)))
     ∙ ap (λ zs. y ∷ zs) (take_each test ys (λ z e. h z (or_right (same_name y z) _ e))))
 
-numbers_length : (first count : ℕ) → length (numbers_from first count) ≡ count
+-- a list of so many numbers in a row has this length
+pub numbers_length : (first count : ℕ) → length (numbers_from first count) ≡ count
 numbers_length first zero = refl
 numbers_length first (suc count) = ap (λ n. suc n) (numbers_length (suc first) count)
 

@@ -49,6 +49,7 @@ use Rattle.urb_group.specs.declared.command.Command.TheVariants as act
 use Rattle.urb_script.proofs.SceneSteps.{IsQuiet}
 use Rattle.urb_script.proofs.ClusterScenes.{GoesTo, kept, lost, not_down, quiet_scene, read, sure_before}
 use Rattle.urb_script.proofs.ClusterScenes.{took}
+use Rattle.std.proofs.lemmas.Bool.{and_parts}
 
 -- the line has this answer, and a scene that it leads to is shown
 abbrev pub TakesTo : Limits → Clustered Memory → Scene → Command → List ℕ → Type 0
@@ -205,10 +206,6 @@ fallen_is size old scene p s =
     ap₂ (λ (l : Limits) (v : State). is_node l.n p && is_down v) s.group.size
     (s.group.nodes p).state
 
-both : (a b : Bool) → (a && b) ≡ true → (a ≡ true) × (b ≡ true)
-both true b e = (refl, e)
-both false b e = absurd (cc)
-
 asked_store : (A : Type 0) (size : Limits) (old new : Clustered Memory) (scene : Scene) (p : ℕ)
     (said : Reply) (before after : Memory) (answered : Result (List Entry) StoreFault)
     → ShowsScene size old scene → said ≢ Refused refusal.NoMemory
@@ -217,7 +214,7 @@ asked_store : (A : Type 0) (size : Limits) (old new : Clustered Memory) (scene :
     → Gives (in_memory A) before answered after → Returns old.group p answered said new.group
     → TakesTo size new scene (Restart p) (reply_text said)
 asked_store A size old new scene p said before after (Ok image) s not down m k r =
-    let is = both (is_node scene.world.size.n p) (is_down (scene.world.node p).state) down in
+    let is = and_parts (is_node scene.world.size.n p) (is_down (scene.world.node p).state) down in
     as_asked size new scene (Restart p) (reply_text said) (λ text next i. i)
     (read size old new scene p image said before after s is.0 is.1 m not r k.answers
     (k.retrieved tt).given.0 k.settled.clear.1)

@@ -37,6 +37,8 @@ use Rattle.urb_script.proofs.SceneSteps.{IsQuiet, kept_held, lost_held, quiet_st
 use Rattle.urb_script.proofs.SceneSteps.{stored_held}
 use Rattle.urb_node.specs.declared.cause.Cause.{Cause}
 use Rattle.urb_group.proofs.steps.DraftsInSteps.{step-size}
+use Rattle.urb_group.proofs.stops.NodeStoreInvariant.{down-in}
+use Rattle.urb_script.proofs.ReopenedClusters.{some_same}
 
 -- ---- a reply, and the world that is shown after it
 
@@ -110,9 +112,6 @@ quiet_scene size old new scene e said i s not r same =
     )
 
 -- ---- one store moves
-
-some_same : {X : Type 0} {x y : X} → Some x ≡ Some y → x ≡ y
-some_same e = cc
 
 set-same : {X : Type 0} (xs : List X) (i : ℕ) (old new found : X) → slice_get xs i ≡ Some old
     → slice_get (slice_set xs i new) i ≡ Some found → new ≡ found
@@ -405,11 +404,6 @@ kept size old new scene p draft said before after s e m steps certain left =
 
 -- ---- restarts
 
-down_is : (s : State) → is_down s ≡ true → (d : Option Entry) × (s ≡ Down d)
-down_is Ready e = absurd (cc)
-down_is (Storing entry cause) e = absurd (cc)
-down_is (Down d) e = (d, refl)
-
 -- the store gave what it holds, all of it
 pub read : (size : Limits) (old new : Clustered Memory) (scene : Scene) (p : ℕ) (image : List Entry)
     (said : Reply) (before after : Memory)
@@ -423,7 +417,7 @@ pub read : (size : Limits) (old new : Clustered Memory) (scene : Scene) (p : ℕ
 read size old new scene p image said before after s is down m not r given certain clear =
     let w : World = scene.world in
     let was = held_before size old scene p before after new.stores is s m in
-    let d = down_is (w.node p).state down in
+    let d = down-in (w.node p).state down in
     let same : image ≡ scene.storage p = given ∙ sym was.holds in
     let tells =
     reacted old.group new.group (Restart p (scene.storage p)) said w s.group not

@@ -1,14 +1,8 @@
 -- Lists written one element after the other.
-use Rattle.std.proofs.Common.{◌≡◌, ℕ, zero, suc, ◌+◌, List, [], ◌∷◌, ◌++◌, Some, drop, sym, ap, ◌∙◌}
+use Rattle.std.proofs.Common.{◌≡◌, ℕ, ◌+◌, List, ◌++◌, Some, drop, sym, ap, ◌∙◌}
 use Rattle.std.proofs.Common.{append_assoc, add-one}
 use Rattle.std.specs.List.{flat_map, slice_get}
-
-next : {X : Type 0} (xs : List X) (at : ℕ) (x : X) → slice_get xs at ≡ Some x
-    → drop at xs ≡ x ∷ drop (suc at) xs
-next [] zero x e = absurd (cc)
-next [] (suc at) x e = absurd (cc)
-next (y ∷ xs) zero x e = let f : y ≡ x = cc in ap (λ z. z ∷ xs) f
-next (y ∷ xs) (suc at) x e = next xs at x e
+use Rattle.urb_names.proofs.Places.{drop_get}
 
 -- one more is written
 pub one_more : {X : Type 0} (f : X → List ℕ) (done whole : List ℕ) (xs : List X) (at : ℕ) (x : X)
@@ -18,5 +12,5 @@ pub one_more : {X : Type 0} (f : X → List ℕ) (done whole : List ℕ) (xs : L
 one_more f done whole xs at x e so_far =
     append_assoc done (f x) (flat_map f (drop (at + 1) xs))
     ∙ ap (λ (n : ℕ). done ++ (f x ++ flat_map f (drop n xs))) (add-one at)
-    ∙ ap (λ ys. done ++ flat_map f ys) (sym (next xs at x e))
+    ∙ ap (λ ys. done ++ flat_map f ys) (sym (drop_get xs at x e))
     ∙ so_far

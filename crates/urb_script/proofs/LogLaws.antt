@@ -14,7 +14,7 @@ use Rattle.urb_stable.specs.Records.{pend}
 use Rattle.urb_stable.specs.declared.fitting.Misfit.{Misfit}
 use Rattle.urb_stable.specs.declared.memory.Failure.TheVariants.{Old, New}
 use Rattle.urb_group.proofs.safety.AgreeingLogs.{agree-now, both_begin, entries-all_grow}
-use Rattle.urb_group.proofs.steps.Growth.{begins-trans, step-goes_on}
+use Rattle.urb_group.proofs.steps.Growth.{begins-itself, begins-trans, step-goes_on}
 use Rattle.urb_group.proofs.safety.SafeWorlds.{safe}
 use Rattle.urb_group.proofs.stops.StoppedWorlds.{survives}
 use Rattle.urb_group.specs.RunMoments.{EntriesGrow}
@@ -134,15 +134,8 @@ logs_are_safe earlier later line output p state s a =
 abbrev Grow : World → World → Type 0
 Grow old new = EntriesGrow old new
 
-begins_same : {A : Type 0} (xs : List A) → Begins xs xs
-begins_same xs = ([], append-nil xs)
-  where
-    append-nil : {A : Type 0} (xs : List A) → xs ++ [] ≡ xs
-    append-nil [] = refl
-    append-nil (x ∷ xs) = ap (λ ys. x ∷ ys) (append-nil xs)
-
 grow_same : (w : World) → Grow w w
-grow_same w p = begins_same (entries (stored w p))
+grow_same w p = begins-itself (entries (stored w p))
 
 event_grows : (scene : Scene) (e : Event) → IsKeptScene scene
     → Grow scene.world (step scene.world e).1

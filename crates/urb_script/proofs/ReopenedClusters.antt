@@ -32,8 +32,11 @@ use Rattle.urb_script.specs.internal.ShownScenes.{IsHeldBy, ShowsScene}
 use Rattle.urb_script.specs.Steps.{Takes, reopens}
 use Rattle.urb_script.specs.Texts.{told_text}
 use Rattle.urb_script.specs.declared.answer_words.FixedAnswer.TheVariants as told
+use Rattle.urb_group.proofs.steps.Runs.{past_end}
+use Rattle.urb_names.proofs.Places.{get_some}
 
-some_same : {X : Type 0} {x y : X} → Some x ≡ Some y → x ≡ y
+-- values are the same if they are so as options
+pub some_same : {X : Type 0} {x y : X} → Some x ≡ Some y → x ≡ y
 some_same e = cc
 
 previous : (i : ℕ) → suc i - 1 ≡ i
@@ -84,16 +87,6 @@ given_counts A (b ∷ stores) (x ∷ images) (a ∷ asked) t =
     let c = given_counts A stores images asked t.1 in (ap suc c.0, ap suc c.1)
 given_counts A stores images asked t = absurd t
 
-there_is : {X : Type 0} (xs : List X) (i : ℕ) → i < length xs → (x : X) × (slice_get xs i ≡ Some x)
-there_is [] i h = absurd (omega (arith, h))
-there_is (x ∷ xs) zero h = (x, refl)
-there_is (x ∷ xs) (suc i) h = there_is xs i (omega (arith, h))
-
-none_there : {X : Type 0} (xs : List X) (i : ℕ) (d : X) → length xs ≤ i → slice_index_or xs i d ≡ d
-none_there [] i d h = refl
-none_there (x ∷ xs) zero d h = absurd (omega (arith, h))
-none_there (x ∷ xs) (suc i) d h = none_there xs i d (omega (arith, h))
-
 and_right : (a b : Bool) → (a && b) ≡ true → b ≡ true
 and_right true b e = e
 and_right false b e = absurd (cc)
@@ -120,11 +113,11 @@ module _ (A : Type 0) (size : Limits) (old : Clustered Memory) (scene : Scene)
       at : (b : Bool) → is_node size.n (suc i) ≡ b
           → scene.storage (suc i) ≡ slice_index_or images i []
       at true is =
-          let m = there_is old.stores i (omega (arith, s.counted, within size.n i is)) in
+          let m = get_some old.stores i (omega (arith, s.counted, within size.n i is)) in
           (s.stores (suc i) m.0 is (subst (λ (k : ℕ). slice_get old.stores k ≡ Some m.0)
           (sym (previous i)) m.1)).holds ∙ sym (image_at A old.stores images asked i m.0 t m.1)
       at false not =
-          s.beyond (suc i) not ∙ sym (none_there images i []
+          s.beyond (suc i) not ∙ sym (past_end images i []
           (omega (
             arith,
             s.counted,

@@ -20,11 +20,11 @@ use Rattle.urb_stable.specs.DeliveredLogs.{entries, log}
 use Rattle.urb_stable.specs.Entries.{Entry as Record}
 use Rattle.urb_stable.specs.Records.{pend}
 use Rattle.urb_show.proofs.AgreeingPages.{in_map, in_prefix}
-use Rattle.urb_show.proofs.PastEvents.{after_both}
 use Rattle.urb_show.specs.DeliveredLists.{AreDeliveredBy, HaveDelivered, in_log}
 use Rattle.urb_show.specs.Lists.{Lists, list_at}
 use Rattle.urb_show.specs.declared.entry.Entry.{Entry}
 use mathlib.Core.List.{IsPrefix}
+use Rattle.urb_group.proofs.recovery.EventPlans.{after-append}
 
 -- the entries of a log have the messages that the records hold
 found_in : (records : List Record) (xs : List Label) (y : Label) (o : Option Content)
@@ -65,7 +65,7 @@ pub stored_later : (w : World) (past later : List Event) (p : ℕ) (x : Label) (
 stored_later w past later p x m begins h =
     let v = after w past in
     let same : after w later ≡ after v begins.0 =
-    ap (after w) (sym begins.1) ∙ after_both w past begins.0 in
+    ap (after w) (sym begins.1) ∙ after-append w past begins.0 in
     let goes = run-goes_on v (after v begins.0) begins.0 (run v begins.0).0 refl in
     subst (λ (u : World). has_pair (pend (stored u p)) x m ≡ true) (sym same)
     (pair_grows (stored v p) (stored (after v begins.0) p) x m (goes.records p) h)

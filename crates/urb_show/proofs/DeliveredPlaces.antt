@@ -14,12 +14,13 @@ use Rattle.urb_stable.specs.DeliveredLogs.{entries}
 use Rattle.urb_show.proofs.AgreeingLists.{begins_at, map_prefix}
 use Rattle.urb_show.proofs.GroupLists.{list_in}
 use Rattle.urb_show.proofs.ListBeginnings.{begins_self}
-use Rattle.urb_show.proofs.PastEvents.{after_both, led_by_none}
+use Rattle.urb_show.proofs.PastEvents.{led_by_none}
 use Rattle.urb_show.proofs.Prefixes.{prefix_trans}
 use Rattle.urb_show.specs.DeliveredLists.{AreDeliveredBy, HaveDelivered, in_log}
 use Rattle.urb_show.specs.Lists.{Begins, Lists, entry_of, list_at, lists_in}
 use Rattle.urb_show.specs.Pasts.{IsLedTo}
 use mathlib.Core.List.{IsPrefix}
+use Rattle.urb_group.proofs.recovery.EventPlans.{after-append}
 
 as_known : (list : List Delivery) → map in_log (map entry_of list) ≡ map known list
 as_known [] = refl
@@ -53,7 +54,7 @@ delivered_later opened past later lists sound begins delivered w shows place =
     kept-grow v (after v begins.0) begins.0 (run v begins.0).0
     (run-kept w past (sound-kept opened w sound shows)) refl (suc place) in
     let same : after w later ≡ after v begins.0 =
-    ap (after w) (sym begins.1) ∙ after_both w past begins.0 in
+    ap (after w) (sym begins.1) ∙ after-append w past begins.0 in
     subst (λ (u : World).
     IsPrefix (map in_log (list_at lists place)) (entries (stored u (suc place)))) (sym same)
     (prefix_trans _ _ _ (delivered w shows place) grown)

@@ -4,8 +4,8 @@ use Rattle.urb_group.specs.GroupViews.{GroupView, Shows}
 use Rattle.urb_group.specs.RecoveryPlans.{after}
 use Rattle.urb_group.specs.Step.{Event}
 use Rattle.urb_group.specs.World.{World}
-use Rattle.urb_show.proofs.PastEvents.{after_both}
 use Rattle.urb_show.specs.Pasts.{IsLedTo}
+use Rattle.urb_group.proofs.recovery.EventPlans.{after-append}
 
 module _ (opened group : GroupView) (w : World) (shows : Shows opened w) (before : List Event) where
   -- a house whose last events are these two lists shows the world after both
@@ -14,7 +14,7 @@ module _ (opened group : GroupView) (w : World) (shows : Shows opened w) (before
       → Shows group (after (after (after w before) first) second)
   shown_after_two first second leads =
       subst (λ (v : World). Shows group v)
-      (after_both w before (first ++ second) ∙ after_both (after w before) first second)
+      (after-append w before (first ++ second) ∙ after-append (after w before) first second)
       (leads w shows)
 
   -- the same of four lists
@@ -23,6 +23,6 @@ module _ (opened group : GroupView) (w : World) (shows : Shows opened w) (before
       → Shows group (after (after (after (after (after w before) first) second) third) later)
   shown_after_four first second third later leads =
       subst (λ (v : World). Shows group v)
-      (after_both (after (after w before) first) second (third ++ later)
-      ∙ after_both (after (after (after w before) first) second) third later)
+      (after-append (after (after w before) first) second (third ++ later)
+      ∙ after-append (after (after (after w before) first) second) third later)
       (shown_after_two first (second ++ (third ++ later)) leads)

@@ -13,11 +13,7 @@ use Rattle.urb_group.specs.RecoveryPlans.{after}
 use Rattle.urb_show.specs.Pasts.{IsLedTo}
 use Rattle.urb_show.specs.internal.PreparedLists.{HasPast}
 use mathlib.Core.List.{IsPrefix}
-
--- no events change nothing
-pub after_none : (w : World) → after w [] ≡ w
-unfolding run
-after_none w = refl
+use Rattle.urb_group.proofs.recovery.EventPlans.{after-append, after-none}
 
 -- the world after one more event is the next step
 pub after_one_more : (w : World) (events : List Event) (event : Event)
@@ -25,13 +21,6 @@ pub after_one_more : (w : World) (events : List Event) (event : Event)
 unfolding step run
 after_one_more w [] event = refl
 after_one_more w (first ∷ events) event = after_one_more (step w first).1 events event
-
--- the world after two lists of events, one behind the other
-pub after_both : (w : World) (first second : List Event)
-    → after w (first ++ second) ≡ after (after w first) second
-unfolding run
-after_both w [] second = refl
-after_both w (event ∷ first) second = after_both (step w event).1 first second
 
 -- if a run leads to a world, a run leads to the world after these events
 pub reached_after : (w : World) (past : List Event) → IsReached w → IsReached (after w past)
@@ -45,7 +34,7 @@ reached_after w past reached =
       replies = (run reached.start (reached.events ++ past)).0;
       ran =
           ap (λ (v : World). ((run reached.start (reached.events ++ past)).0, v))
-          (after_both reached.start reached.events past
+          (after-append reached.start reached.events past
           ∙ ap (λ (v : World). after v past) ran);
     }
 
@@ -54,7 +43,7 @@ pub led_by_none : (opened group : GroupView) (past : List Event) → past ≡ []
     → IsLedTo opened past group
 led_by_none opened group past none same w shows =
     subst (λ (v : World). Shows group v)
-    (sym (ap (after w) none ∙ after_none w))
+    (sym (ap (after w) none ∙ after-none w))
     (subst (λ (g : GroupView). Shows g w) (sym same) shows)
 
 -- the first past of a house

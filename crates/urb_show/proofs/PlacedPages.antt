@@ -1,6 +1,6 @@
 -- Lists that are delivered at places of one history agree.
-use Rattle.std.proofs.Common.{Bool, List, Option, [], ap, cond, false, filter, inl, inr, map, refl}
-use Rattle.std.proofs.Common.{subst, suc, sym, true, ℕ, ⊎_elim, ◌==◌, ◌∙◌, ◌∷◌, ◌≡◌}
+use Rattle.std.proofs.Common.{Bool, List, Option, [], ap, filter, inl, inr, map, refl}
+use Rattle.std.proofs.Common.{subst, suc, sym, ℕ, ⊎_elim, ◌==◌, ◌∙◌, ◌∷◌, ◌≡◌}
 use Rattle.std.proofs.lemmas.List.Elements.{filter-append}
 use Rattle.urb_group.proofs.safety.AgreeingLogs.{agree-now}
 use Rattle.urb_group.proofs.safety.SafeWorlds.{safe}
@@ -25,17 +25,7 @@ use Rattle.urb_show.specs.DeliveredLists.{AreDeliveredBy, HaveDelivered, in_log}
 use Rattle.urb_show.specs.Lists.{AgreeAcross, Lists, delivery_of, list_at}
 use Rattle.urb_show.specs.declared.entry.Entry.{Entry}
 use mathlib.Core.List.{IsPrefix}
-
-filter_mapped : {A B : Type 0} (f : A → B) (test : B → Bool) (xs : List A)
-    → filter test (map f xs) ≡ map f (filter (λ x. test (f x)) xs)
-filter_mapped f test [] = refl
-filter_mapped f test (x ∷ xs) = at (test (f x)) (filter_mapped f test xs)
-  where
-    at : (b : Bool) → filter test (map f xs) ≡ map f (filter (λ y. test (f y)) xs)
-        → cond b (f x ∷ filter test (map f xs)) (filter test (map f xs)) ≡ map f
-        (cond b (x ∷ filter (λ y. test (f y)) xs) (filter (λ y. test (f y)) xs))
-    at true e = ap (λ ys. f x ∷ ys) e
-    at false e = e
+use Rattle.urb_group.proofs.shown.AgreeingDeliveries.{filter-mapped}
 
 filter_prefix : {A : Type 0} (test : A → Bool) (xs ys : List A) → IsPrefix xs ys
     → IsPrefix (filter test xs) (filter test ys)
@@ -62,10 +52,10 @@ module _ (v : World) (is_safe : Safe v) where
       filter_prefix (λ (e : Label × Option Content). e.0.sender == s) (map known ds)
       (entries records) told in
       subst (λ (es : List (Label × Option Content)). IsPrefix es (entries_of s records))
-      (filter_mapped known (λ e. e.0.sender == s) ds)
+      (filter-mapped known (λ e. e.0.sender == s) ds)
       (subst (λ (es : List (Label × Option Content)).
       IsPrefix (filter (λ (e : Label × Option Content). e.0.sender == s) (map known ds)) es)
-      (filter_mapped (λ x. (x, message_of (pend records) x)) (λ e. e.0.sender == s) (log records))
+      (filter-mapped (λ x. (x, message_of (pend records) x)) (λ e. e.0.sender == s) (log records))
       parts)
 
   -- lists that one world has delivered agree

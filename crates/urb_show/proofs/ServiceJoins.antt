@@ -7,7 +7,7 @@ use Rattle.std.proofs.lemmas.Bool.{cond-true, or_left, or_right}
 use Rattle.std.proofs.lemmas.List.{length-map}
 use Rattle.std.proofs.lemmas.List.Elements.{filter-append}
 use Rattle.urb_group.proofs.safety.SafeWorlds.{safe}
-use Rattle.urb_group.proofs.steps.DraftedRecords.{AllKept, to_sender}
+use Rattle.urb_group.proofs.steps.DraftedRecords.{to_sender}
 use Rattle.urb_group.proofs.steps.Runs.{all_kept}
 use Rattle.urb_group.specs.RunInvariant.{NodesKept}
 use Rattle.urb_group.specs.World.{World, stored}
@@ -108,27 +108,27 @@ module _ (w : World) (inv : NodesKept w) where
       (λ q. subst (λ (xs : List Label). length (part_of q xs) ≤ length (w.node q).broadcast)
       (sym e) (bound p q))
 
-  all : AllKept w.size (stored w)
-  all = all_kept w inv
-
   -- the message of a delivered name is on its sender's list
   on_list : (p : ℕ) (x : Label) → has_name (log (stored w p)) x ≡ true
       → message_of (pend (stored w p)) x ≡ slice_get (w.node x.sender).broadcast (x.seq - 1)
   on_list p x h =
       let held = (safe w inv).uniform p x h in
       let theirs : has_pair (pend (stored w x.sender)) x held.0 ≡ true =
-      to_sender w.size (stored w) all p x held.0
+      to_sender w.size (stored w) (all_kept w inv) p x held.0
       (has_pair-found (pend (stored w p)) x held.0 held.1) in
       let at =
-      own_number w.size (stored w) x.sender (stored w x.sender) (all x.sender) x held.0 theirs
+      own_number w.size (stored w) x.sender (stored w x.sender)
+      (all_kept w inv x.sender) x held.0 theirs
       (eq-eqb x.sender x.sender refl) in
       let number = at.1 in
       let place : x.seq - 1 ≡ at.0 = omega (arith, number) in
       let same : x ≡ name x.sender (suc at.0) = ap (name x.sender) number in
       held.1 ∙ (sym
-      (kept-unique w.size (stored w) x.sender (stored w x.sender) (all x.sender) x held.0 theirs)
+      (kept-unique w.size (stored w) x.sender (stored w x.sender) (all_kept w inv x.sender) x
+      held.0 theirs)
       ∙ (ap (message_of (pend (stored w x.sender))) same
-      ∙ (kept-numbered w.size (stored w) x.sender (stored w x.sender) (all x.sender) at.0
+      ∙ (kept-numbered w.size (stored w) x.sender (stored w x.sender)
+      (all_kept w inv x.sender) at.0
       ∙ (ap (λ ms. slice_get ms at.0) (sym (inv x.sender).broadcast)
       ∙ ap (slice_get (w.node x.sender).broadcast) (sym place)))))
 

@@ -16,6 +16,7 @@ use Rattle.sqlite_catalog.specs.Change.{KeepsRows}
 use Rattle.sqlite_catalog.specs.Listing.{IsSound, IsTableRow}
 use Rattle.urb_sqlite.specs.JournalTables.{record_table, table_of, tree_of, Lacks, HasTable}
 use Rattle.urb_sqlite.proofs.StatementTexts.{found_at}
+use Rattle.urb_names.proofs.Places.{get_stays}
 
 -- ---- lists with one more
 
@@ -25,13 +26,6 @@ pub all_at : {X : Type 0} (P : X → Type 0) (xs : List X) (i : ℕ) (x : X) →
 all_at P [] i x all got = absurd (let e = got in cc)
 all_at P (y ∷ xs) zero x all got = (let same : y ≡ x = cc in subst P same all.0)
 all_at P (y ∷ xs) (suc i) x all got = all_at P xs i x all.1 got
-
--- an element stays at its place when others are added after the list
-pub slice_front : {X : Type 0} (xs ys : List X) (i : ℕ) (x : X) → slice_get xs i ≡ Some x
-    → slice_get (xs ++ ys) i ≡ Some x
-slice_front [] ys i x got = absurd (let e = got in cc)
-slice_front (y ∷ xs) ys zero x got = got
-slice_front (y ∷ xs) ys (suc i) x got = slice_front xs ys i x got
 
 -- the element that is added to a list is at the place that equals the list's length
 pub slice_last : {X : Type 0} (xs : List X) (x : X) → slice_get (xs ++ x ∷ []) (length xs) ≡ Some x
@@ -193,7 +187,7 @@ module _ (s k : Schema) (t : Table) (behind : k.tables ≡ s.tables ++ t ∷ [])
       ap (position_from (λ x. same_name x.name name) 0) behind
       ∙ position_front (λ x. same_name x.name name) 0 s.tables (t ∷ []) it.at it.named in
       let there : slice_get k.tables it.at ≡ Some (record_table name tree) =
-      ap (λ ts. slice_get ts it.at) behind ∙ slice_front s.tables (t ∷ []) it.at _ it.there in
+      ap (λ ts. slice_get ts it.at) behind ∙ get_stays s.tables (t ∷ []) it.at _ it.there in
       with_tree k name tree (ap (option_and_then (slice_get k.tables)) named ∙ there)
       (ap (find (λ x. x.tree == tree)) behind
       ∙ find_front (λ x. x.tree == tree) s.tables (t ∷ []) _ has.alone) has.stored
@@ -256,7 +250,7 @@ module _ (s k : Schema) (more : List Table) (behind : k.tables ≡ s.tables ++ m
   table_stays name t is =
       let it = stands_at name t is in
       ap (option_and_then (slice_get k.tables)) (named_front name it.at it.named)
-      ∙ ap (λ ts. slice_get ts it.at) behind ∙ slice_front s.tables more it.at t it.there
+      ∙ ap (λ ts. slice_get ts it.at) behind ∙ get_stays s.tables more it.at t it.there
 
   -- a table of records that is there afterwards, and whose name existed before, was there before
   pub has_before : (name : List ℕ) (t : Table) → table_of s name ≡ Some t → HasTable k name

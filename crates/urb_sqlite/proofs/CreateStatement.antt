@@ -27,8 +27,9 @@ use Rattle.urb_sqlite.proofs.StatementTexts.{Makes}
 use Rattle.sqlite_resolve.specs.Compile.{table_defined_by}
 use Rattle.sqlite_tied.specs.Compute.{everything}
 use Rattle.urb_sqlite.proofs.AnySchema.{create_is}
-use Rattle.urb_sqlite.proofs.AddedTables.{all_at, slice_front, slice_last, has_behind, has_new}
+use Rattle.urb_sqlite.proofs.AddedTables.{all_at, slice_last, has_behind, has_new}
 use Rattle.urb_sqlite.proofs.AddedTables.{kept_rows, lacks_behind, low_trees}
+use Rattle.urb_names.proofs.Places.{get_stays}
 
 no_other : (o : Option ℕ) (b c : Bool) → ((is_some o || b) || c) ≡ false → o ≡ None
 no_other None b c h = refl
@@ -127,7 +128,7 @@ low_new d mid after table rest first second sound =
     ∙ slice_last d.schema.tables (added d table) in
     let here : slice_get after.schema.tables (length d.schema.tables) ≡ Some (added d table) =
     ap (λ ts. slice_get ts (length d.schema.tables)) second
-    ∙ slice_front mid.schema.tables rest _ _ there in
+    ∙ get_stays mid.schema.tables rest _ _ there in
     all_at (λ (t : Table). t.tree < 65536) after.schema.tables _ (added d table)
     (low_trees after.schema after.trees sound) here
 

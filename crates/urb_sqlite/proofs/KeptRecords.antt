@@ -8,7 +8,7 @@ use Rattle.sqlite.specs.Tree.{Trees}
 use Rattle.sqlite.specs.View.{doubt}
 use Rattle.std.proofs.lemmas.List.Sorted.{IsPermutation-sym, IsPermutation-trans}
 use Rattle.sqlite_keyed.proofs.SortLemmas.{sorted_unique, IsPermutation-sort_by}
-use Rattle.sqlite.specs.Effect.{Database}
+use Rattle.sqlite.specs.Effect.{Database, IsDatabase}
 use Rattle.sqlite_schema.specs.declared.schema.Schema.{Schema}
 use Rattle.sqlite.specs.declared.error.Error.{Error}
 use Rattle.sqlite.specs.Clock.{timed}
@@ -140,6 +140,7 @@ pub record IsOwnWrite (old new : State) : Type 0 where
   pub mode : new.in_transaction ≡ old.in_transaction
   pub was_open : IsTrue old.is_open
   pub is_open : IsTrue new.is_open
+  pub sound : IsDatabase new.now
 
 -- whatever the schema is, an INSERT that succeeds keeps it, and is committed outside a transaction
 pub writes_in_any : (params : Row) (old new : State) (count : ℕ)
@@ -163,6 +164,7 @@ writes_in_any params old new count h =
       mode = w.shown.mode;
       was_open = w.shown.was_open;
       is_open = w.shown.is_open;
+      sound = w.sound;
     }
   where
     same_schema : (at : ℕ) (from : Source) (full : Row) (o : Option Table) (tally : Tally)
@@ -275,7 +277,8 @@ commits_record old place r db has h low valid commits =
 abbrev pub IsSettled : State → Type 0
 IsSettled s = (db : Trees) → s.may_leave db → db ≡ s.committed.trees
 
-last_commit : (s : State) (next : ℕ) (db : Trees) → IsSettled s → IsLive s → IsHonestJournal s
+-- If the last commit is all that a stop leaves, it is a journal of the records that are shown.
+pub last_commit : (s : State) (next : ℕ) (db : Trees) → IsSettled s → IsLive s → IsHonestJournal s
     → IsKept s next → s.may_leave db → IsJournalOf db (records_of s.now)
 last_commit s next db settled live honest kept left =
     let is : db ≡ s.now.trees =

@@ -6,7 +6,8 @@
 -- SelectStatement and CreateStatement say what each statement does to its table. SpelledRows and
 -- StoredRows read rows as records, and CursorReads does so one by one.
 -- KeptRecords joins these: a store adds its record (`appended`), and a stop at a store leaves the
--- records with it or without it (`stops_at_insert`). The openings of the tables are built on it.
+-- records with it or without it (`stops_at_insert`). TransactionRecords says both of several records
+-- that one transaction adds (`added_all`, `stops_at_inserts`). The openings of the tables are built on it.
 -- The database is taken over (`taken_over`), or it is given back with its rows
 -- (`second_given_back`). JournalSchemas, NodeJournals and JournalStops come last: what an opening
 -- finds in the files (`found_there`), and after a stop (`found_again`). FoundRecords says that it
@@ -22,6 +23,7 @@ pub mod AnySchema
 pub mod SpelledRows
 pub mod StoredRows
 pub mod KeptRecords
+pub mod TransactionRecords
 pub mod TableReadings
 pub mod OpenedTables
 pub mod TableOpenings

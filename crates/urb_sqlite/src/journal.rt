@@ -19,8 +19,10 @@ use urb_stable::{Record, Stable, StoreFault};
 
 /// A node's journal: stable storage in the tables `journal` and `journal2` of a database. New
 /// records go into `journal2` alone. The records of `journal`, the older table, come before them. A
-/// record is one row, stored by one INSERT outside any transaction. Nothing else may write the
-/// database while this value holds it.
+/// record is one row. A record alone is stored by one INSERT outside any transaction. Records that
+/// come together are stored by the INSERTs of one transaction. So one commit holds whole records,
+/// and all of those that come together. Nothing else may write the database while this value holds
+/// it.
 ///
 /// `Device` is any refusal of the database except for memory, and each one raises the count of
 /// failures by one. If that count is at its greatest value, 2^64 - 1, the next failure returns
@@ -190,6 +192,31 @@ impl<S: Alter> Stable for SqlStable<S> {
         match records::append(&mut self.conn, &mut self.failures, pos, entry) {
             Ok(()) => {
                 self.next += 1;
+                Ok(())
+            }
+            Err(fault) => {
+                self.doubtful = true;
+                Err(fault)
+            }
+        }
+    }
+
+    fn store_all(&mut self, pos: u32, entries: &[Record]) -> Result<(), StoreFault> {
+        let count = entries.len();
+        let room = (u32::MAX - self.next) as usize;
+        if self.doubtful || pos != self.next || room < count {
+            // Called for its clause that the database obeys its schema.
+            let _schema = self.conn.schema();
+            return Err(StoreFault::Place(self.next));
+        }
+        if count == 0 {
+            // For the same clause.
+            let _same = self.conn.schema();
+            return Ok(());
+        }
+        match records::append_many(&mut self.conn, &mut self.failures, pos, entries) {
+            Ok(()) => {
+                self.next += count as u32;
                 Ok(())
             }
             Err(fault) => {

@@ -5,6 +5,7 @@
 //! ```text
 //! let journal = open_node::<D>(rt, path, claim)?;       // makes absent tables, and reads all rows
 //! let receipt = draft.keep(&mut journal)?;              // one INSERT, one commit, one sync
+//! let batch = store_ahead(node, pos, records, &mut journal)?; // an INSERT each, one commit, one sync
 //! close_node(rt, path, journal)?;                       // one file is left
 //! ```
 //!

@@ -21,6 +21,7 @@ ghost use Rattle.urb_sqlite.specs.OpenJournal.{LeavesOnly, IsTakenOver, IsGivenB
 ghost use Rattle.urb_sqlite.specs.internal.JournalChanges.{IsInStep, CommitsAtMost, IsAppended};
 ghost use Rattle.urb_sqlite.specs.internal.JournalChanges.{IsLeft, RollsBackAtMost, StaysSafe};
 ghost use Rattle.urb_sqlite.specs.internal.JournalChanges.{FindsNoBadRow, TakesRecords};
+ghost use Rattle.urb_sqlite.specs.internal.TransactionChanges.{AreAdded};
 ghost use Rattle.urb_sqlite.specs.internal.PartOpening.{ReadsPart, IsPrepared, IsPartOpened};
 ghost use Rattle.urb_sqlite.specs.internal.PartOpening.{IsPartRefused};
 
@@ -90,6 +91,78 @@ pub fn append<S: Alter>(
     match inserted {
         Ok(_) => Ok(()),
         Err(error) => Err(blame(failures, error)),
+    }
+}
+
+/// Adds several records, the first at this place, in one transaction: all of them or none.
+fn append_in_transaction<S: Alter>(
+    conn: &mut Connection<S>,
+    failures: &mut u64,
+    place: u32,
+    entries: &[Record],
+) -> Result<(), StoreFault>
+    requires low { place + length entries.now ≤ 4294967295 }
+    ensures ok { IsInStep (state S.Store conn.old) place
+        → OnOk result
+        (AreAdded (state S.Store conn.old) (state S.Store conn.new) place entries.now) }
+    ensures err { IsInStep (state S.Store conn.old) place
+        → OnErr result (IsLeft (state S.Store conn.old) (state S.Store conn.new) place) }
+    ensures stop { IsInStep (state S.Store conn.old) place
+        → IsHonestJournal (state S.Store conn.old)
+        → HasCleanDisk (state S.Store conn.new)
+        → LeavesOnly (state S.Store conn.new) (λ records.
+        (records ≡ records_of (state S.Store conn.old).now)
+        ⊎ (records ≡ records_of (state S.Store conn.old).now ++ entries.now)) }
+    ensures rest { IsInStep (state S.Store conn.old) place → IsSafeAtRest (state S.Store conn.new) }
+    ensures clean { HasCleanDisk (state S.Store conn.new) → HasCleanDisk (state S.Store conn.old) }
+    ensures known { IfErr result (λ e. (e ≡ StoreFault.NoMemory) ⊎ (e ≡ StoreFault.Device)) }
+    ensures device { result ≡ Err StoreFault.Device → failures.old < failures.new }
+    ensures counts { failures.old ≤ failures.new }
+{
+    // Called for its clause that the database obeys its schema, before the call and after it.
+    let _before = conn.schema();
+    let is_inside = !conn.is_autocommit();
+    if is_inside {
+        // While the disk is clean, no open journal is inside a transaction.
+        return Err(blame(failures, Error::SqliteFailure(ErrorCode::TransactionState)));
+    }
+    let inserted = sql::insert_all(conn, place, entries);
+    let _after = conn.schema();
+    match inserted {
+        Ok(()) => Ok(()),
+        Err(error) => Err(blame(failures, error)),
+    }
+}
+
+/// Adds the records, the first at this place: all of them or none. One record alone is added by one
+/// INSERT outside any transaction, and several by one transaction.
+pub fn append_many<S: Alter>(
+    conn: &mut Connection<S>,
+    failures: &mut u64,
+    place: u32,
+    entries: &[Record],
+) -> Result<(), StoreFault>
+    requires low { place + length entries.now ≤ 4294967295 }
+    ensures ok { IsInStep (state S.Store conn.old) place
+        → OnOk result
+        (AreAdded (state S.Store conn.old) (state S.Store conn.new) place entries.now) }
+    ensures err { IsInStep (state S.Store conn.old) place
+        → OnErr result (IsLeft (state S.Store conn.old) (state S.Store conn.new) place) }
+    ensures stop { IsInStep (state S.Store conn.old) place
+        → IsHonestJournal (state S.Store conn.old)
+        → HasCleanDisk (state S.Store conn.new)
+        → LeavesOnly (state S.Store conn.new) (λ records.
+        (records ≡ records_of (state S.Store conn.old).now)
+        ⊎ (records ≡ records_of (state S.Store conn.old).now ++ entries.now)) }
+    ensures rest { IsInStep (state S.Store conn.old) place → IsSafeAtRest (state S.Store conn.new) }
+    ensures clean { HasCleanDisk (state S.Store conn.new) → HasCleanDisk (state S.Store conn.old) }
+    ensures known { IfErr result (λ e. (e ≡ StoreFault.NoMemory) ⊎ (e ≡ StoreFault.Device)) }
+    ensures device { result ≡ Err StoreFault.Device → failures.old < failures.new }
+    ensures counts { failures.old ≤ failures.new }
+{
+    match entries {
+        [entry] => append(conn, failures, place, entry),
+        _ => append_in_transaction(conn, failures, place, entries),
     }
 }
 

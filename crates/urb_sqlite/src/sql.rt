@@ -1,13 +1,14 @@
 //! The SQL statements of a journal, each in a call of its own.
 
-ghost use Rattle.std.specs.Prelude.{◌≡◌, []};
-ghost use Rattle.sqlite.specs.State.{HasCleanDisk, Executes, Survives, CommitsBy};
+ghost use Rattle.std.specs.Prelude.{◌≡◌, ◌+◌, ◌≤◌, [], IsTrue, OnErr, OnOk, false, length};
+ghost use Rattle.sqlite.specs.State.{HasCleanDisk, Executes, ExecutesInside, Survives, CommitsBy};
 ghost use Rattle.sqlite.specs.Held.{state};
 ghost use Rattle.urb_sqlite.specs.internal.JournalStatements.{create_of, insert_text, select_of};
+ghost use Rattle.urb_sqlite.specs.internal.TransactionChanges.{FillsTo, IsFilled, IsUndone};
 ghost use Rattle.urb_sqlite.specs.RecordRows.{columns_of, row_of};
 
 use crate::rows::Columns;
-use sqlite::{Alter, Connection, Error, params};
+use sqlite::{Alter, Connection, Error, Transaction, params};
 use urb_names::{MAX_PAYLOAD, Message, Name};
 use urb_stable::Record;
 
@@ -122,6 +123,94 @@ pub fn insert<S: Alter>(
             insert_row(conn, columns, &[])
         }
     }
+}
+
+// Adds a row with these numbers and this payload, inside a transaction.
+fn insert_row_inside<S: Alter>(
+    tx: &mut Transaction<'_, S>,
+    columns: Columns,
+    payload: &[u8],
+) -> Result<usize, Error>
+    ensures same_reference { tx.new.conn.ghost_name ≡ tx.old.conn.ghost_name }
+    ensures runs { HasCleanDisk (state S.Store tx.new.conn.now)
+        → IsTrue (state S.Store tx.old.conn.now).in_transaction
+        → ExecutesInside 0 insert_text
+        (columns_of columns.pos columns.kind columns.sender columns.seq columns.client
+        columns.number payload.now) (state S.Store tx.old.conn.now)
+        (state S.Store tx.new.conn.now) result }
+    ensures survives { Survives (state S.Store tx.old.conn.now) (state S.Store tx.new.conn.now)
+        (λ _. ⊥) }
+{
+    let (pos, kind, sender) = (columns.pos, columns.kind, columns.sender);
+    let (seq, client, number) = (columns.seq, columns.client, columns.number);
+    let text = "INSERT INTO journal2 VALUES (?1, ?2, ?3, ?4, ?5, ?6, ?7)";
+    tx.execute(
+        text,
+        params![pos, kind, sender, seq, client, number, payload],
+    )
+}
+
+// Adds the record's row, inside a transaction.
+fn insert_inside<S: Alter>(
+    tx: &mut Transaction<'_, S>,
+    place: u32,
+    entry: &Record,
+) -> Result<usize, Error>
+    ensures same_reference { tx.new.conn.ghost_name ≡ tx.old.conn.ghost_name }
+    ensures runs { HasCleanDisk (state S.Store tx.new.conn.now)
+        → IsTrue (state S.Store tx.old.conn.now).in_transaction
+        → ExecutesInside 0 insert_text (row_of place entry.now) (state S.Store tx.old.conn.now)
+        (state S.Store tx.new.conn.now) result }
+    ensures survives { Survives (state S.Store tx.old.conn.now) (state S.Store tx.new.conn.now)
+        (λ _. ⊥) }
+{
+    match entry {
+        Record::Pend(name, m) => {
+            insert_row_inside(tx, columns_with(place, 1, *name, m), m.payload())
+        }
+        Record::PendCert(name, m) => {
+            insert_row_inside(tx, columns_with(place, 2, *name, m), m.payload())
+        }
+        Record::Cert(name) => {
+            let columns = Columns {
+                pos: place,
+                kind: 3,
+                sender: u32::from(name.sender.number()),
+                seq: name.seq,
+                client: 0,
+                number: 0,
+            };
+            insert_row_inside(tx, columns, &[])
+        }
+    }
+}
+
+/// Adds the rows of all these records, the first at this place, in one transaction, which one
+/// commit ends. After an error none of them is added.
+pub fn insert_all<S: Alter>(
+    conn: &mut Connection<S>,
+    place: u32,
+    entries: &[Record],
+) -> Result<(), Error>
+    requires auto { conn.old.in_transaction ≡ false }
+    requires low { place + length entries.now ≤ 4294967295 }
+    ensures ok { HasCleanDisk (state S.Store conn.new)
+        → OnOk result
+        (IsFilled (state S.Store conn.old) (state S.Store conn.new) place entries.now) }
+    ensures err { HasCleanDisk (state S.Store conn.new)
+        → OnErr result (IsUndone (state S.Store conn.old) (state S.Store conn.new)) }
+    ensures survives { Survives (state S.Store conn.old) (state S.Store conn.new)
+        (FillsTo (state S.Store conn.old) place entries.now) }
+{
+    let mut at = place;
+    let mut tx = conn.transaction();
+    for entry in entries {
+        entry.recall();
+        insert_inside(&mut tx, at, entry)?;
+        at += 1;
+    }
+    tx.commit()?;
+    Ok(())
 }
 
 /// The text of the SELECT that reads the rows of a table, in order of `pos`.

@@ -1,5 +1,6 @@
 //! Journals over files in memory and over real files, and groups over journals.
 
+mod batches;
 mod changes;
 mod closings;
 mod files;

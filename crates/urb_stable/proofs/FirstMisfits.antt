@@ -22,6 +22,7 @@ use Rattle.urb_stable.specs.Images.{image_of}
 use Rattle.urb_stable.specs.declared.fitting.Misfit.{Misfit}
 use Rattle.urb_stable.specs.Records.{cert, pend}
 use Rattle.urb_stable.specs.declared.record.Record.TheVariants.{Cert, Pend, PendCert}
+use Rattle.std.proofs.Math.Numerals.{suc-eq-add-one}
 
 -- ---- continuing a search
 
@@ -39,9 +40,6 @@ passed here first rest all e f h = sym (ap (λ o. option_or o rest) f) ∙ (sym 
 from_here : (records : List Entry) (i : ℕ) (r : Entry) → i < length records
     → r ≡ slice_index_or records i r → drop i records ≡ r ∷ drop (suc i) records
 from_here records i r l e = drop-cons records i r l ∙ ap (λ x. x ∷ drop (suc i) records) (sym e)
-
-one_more : (i : ℕ) → suc i ≡ i + 1
-one_more i = omega arith
 
 -- ---- rule B
 
@@ -104,7 +102,7 @@ record-step size images p image i r l e =
     ∙ (ap (λ rs. option_or (first_of_all (broken size images p (take i image) r))
     (first_of_all (misfits_behind size images p rs (drop (suc i) image)))) (sym taken)
     ∙ ap (λ j. option_or (first_of_all (broken size images p (take i image) r))
-    (first_of_all (misfits_behind size images p (take j image) (drop j image)))) (one_more i)))
+    (first_of_all (misfits_behind size images p (take j image) (drop j image)))) (suc-eq-add-one i)))
   where
     taken : take (suc i) image ≡ take i image ++ r ∷ []
     taken = take-suc image i r l ∙ ap (λ x. take i image ++ x ∷ []) (sym e)
@@ -125,7 +123,7 @@ node-step f i n l =
     ap (λ k. first_of_all (flat_map f (numbers_from (suc i) k))) left
     ∙ (first-append (f (suc i)) (flat_map f (numbers_from (suc (suc i)) (n - (i + 1))))
     ∙ ap (λ j. option_or (first_of_all (f (suc i)))
-    (first_of_all (flat_map f (numbers_from (suc j) (n - (i + 1)))))) (one_more i))
+    (first_of_all (flat_map f (numbers_from (suc j) (n - (i + 1)))))) (suc-eq-add-one i))
   where
     left : n - i ≡ suc (n - (i + 1))
     left = omega arith
@@ -162,7 +160,7 @@ pub node-told : (size : Limits) (images : ℕ → List Entry) (i node : ℕ) (im
     → o ≡ first_of_all (misfits_behind size images node [] image)
     → first_of_all (misfits_behind size images (suc i) [] (images (suc i))) ≡ o
 node-told size images i node image o e f h =
-    ap (λ k. first_of_all (misfits_behind size images k [] (images (suc i)))) (one_more i ∙ sym e)
+    ap (λ k. first_of_all (misfits_behind size images k [] (images (suc i)))) (suc-eq-add-one i ∙ sym e)
     ∙ (ap (λ rs. first_of_all (misfits_behind size images node [] rs)) (sym f) ∙ sym h)
 
 -- if a number was found for a node, the node is that number

@@ -24,6 +24,7 @@ use Rattle.urb_stable.specs.internal.Indexes.{IsIndexOf, IsLast, by_name}
 use Rattle.urb_stable.specs.Records.{pend}
 use Rattle.urb_stable.specs.declared.index.Places.{Places}
 use Rattle.urb_stable.specs.declared.record.Record.TheVariants.{Cert, Pend, PendCert}
+use Rattle.std.proofs.Math.Numerals.{suc-eq-add-one}
 
 -- ---- the order of names
 
@@ -77,15 +78,12 @@ pub none-has : (ps : List (Label × Content)) (x : Label) (m : Content) → mess
 none-has ps x m e =
     ⊎_elim (λ f. absurd (no_pair ps x m e f)) (λ f. f) (cases_Bool (has_pair ps x m))
 
-one_more : (i : ℕ) → suc i ≡ i + 1
-one_more i = omega arith
-
 -- the pairs of the records up to the next one are those before it, then its own
 pub pend-next : (image : List Entry) (i : ℕ) (r : Entry) → i < length image
     → r ≡ slice_index_or image i r
     → pend (take (i + 1) image) ≡ pend (take i image) ++ pend (r ∷ [])
 pend-next image i r l e =
-    ap (λ n. pend (take n image)) (sym (one_more i))
+    ap (λ n. pend (take n image)) (sym (suc-eq-add-one i))
     ∙ (ap pend (take-suc image i r l ∙ ap (λ x. take i image ++ x ∷ []) (sym e))
     ∙ pend-append (take i image) (r ∷ []))
 

@@ -10,6 +10,7 @@
 -- search: FirstMisfits, the file of `count-images`, and the last four of the list below, on the
 -- index. Contents and the file of `whole` are about what one store holds.
 pub mod AppendedElements
+pub mod ClaimedRecords
 pub mod Contents
 pub mod JoinedRecords
 pub mod KeptRules

@@ -11,11 +11,11 @@ use Rattle.urb_names.specs.Names.{has_name, name, same_name}
 use Rattle.urb_names.specs.LabelsAndContents.{Content, Label}
 use Rattle.urb_names.specs.Release.{part_of, released}
 use Rattle.urb_stable.proofs.JoinedRecords.{cert-append}
-use Rattle.urb_stable.proofs.OwnRules.{both_ways}
 use Rattle.urb_stable.specs.Entries.{Entry}
 use Rattle.urb_stable.specs.DeliveredLogs.{DeliversExactly, log}
 use Rattle.urb_stable.specs.Records.{cert}
 use Rattle.urb_stable.specs.declared.record.Record.TheVariants.{Cert, Pend, PendCert}
+use Rattle.urb_names.proofs.TruthValues.{both_ways}
 
 -- each name of a log is certified by its records
 pub logged_certified : (records : List Entry) (x : Label) → has_name (log records) x ≡ true

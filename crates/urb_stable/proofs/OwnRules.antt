@@ -231,12 +231,6 @@ own-numbers size p rs h = kept-numbers (more_nodes size) (λ q. rs) p rs (own-ke
 
 -- ---- one more record
 
--- two truth values are equal if each follows from the other
-pub both_ways : (a b : Bool) → (a ≡ true → b ≡ true) → (b ≡ true → a ≡ true) → a ≡ b
-both_ways true b h k = sym (h refl)
-both_ways false true h k = k refl
-both_ways false false h k = refl
-
 -- the pairs before a record, with its own, are those after it
 pub pairs-joined : (records : List Entry) (r : Entry) (ps : List (Label × Content))
     → ((x : Label) (m : Content) → has_pair ps x m ≡ has_pair (pend records) x m)

@@ -8,7 +8,7 @@ use Rattle.std.specs.Option.{option_or}
 use Rattle.std.specs.Prelude.{option_map}
 use Rattle.urb_names.specs.LabelsAndContents.{Content, Label}
 use Rattle.urb_names.specs.Pairs.{has_pair, message_of}
-use Rattle.urb_stable.proofs.IndexGrowth.{none-has}
+use Rattle.urb_stable.proofs.IndexGrowth.{none-has, same_some}
 use Rattle.urb_stable.specs.Entries.{Entry, name_of}
 use Rattle.urb_stable.specs.internal.Indexes.{IsIndexOf, IsLast, by_name}
 use Rattle.urb_stable.specs.Records.{pend}
@@ -54,10 +54,6 @@ stands-before image x index k r o h within here named found =
       last =
           subst (λ (y : Label). IsLast image k y o) named (h.before k r o here found);
     }
-
--- a place of the walk has a record with the name
-same_some : {X : Type 0} (a b : X) (o : Option X) → o ≡ Some a → o ≡ Some b → a ≡ b
-same_some a b o e f = cc
 
 -- from each place, the walk continues at the last pair before it
 pub stands-next : {A : Type 0} (image : List Entry) (x : Label) (index : Places A) (n k : ℕ)

@@ -4,7 +4,9 @@ pub mod DeliveredLogs
 pub mod PlacedRecords
 pub mod Doubts
 pub mod StableStorage
+pub mod StoredTogether
 pub mod StoreAnswers
+pub mod StoredBatches
 pub mod KeptDrafts
 pub mod MemoryStores
 pub mod Images

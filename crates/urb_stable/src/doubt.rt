@@ -6,8 +6,9 @@ use std::marker::Model;
 use urb_names::NodeId;
 
 /// Evidence that a store did not confirm that it kept a node's record. If the fault is `Place`, the
-/// record was not kept. After any other fault it may have been kept or not. Only `Draft::keep`
-/// makes a doubt.
+/// record was not kept. After any other fault it may have been kept or not. If the store was asked
+/// to keep several records together, it kept none of them or all. Only `Draft::keep` and
+/// `store_ahead` make a doubt.
 #[derive(Debug, Drop)]
 pub struct Doubt {
     node: NodeId,

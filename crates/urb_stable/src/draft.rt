@@ -1,9 +1,10 @@
 //! Drafts: records that a node wants stored.
-ghost use Rattle.std.specs.Prelude.{◌≡◌, ◌<◌, MatchResult};
+ghost use Rattle.std.specs.Prelude.{◌≡◌, ◌<◌, MatchResult, IfOk, IfErr, Some};
 ghost use Rattle.urb_stable.specs.StoreAnswers.{answer_of};
 ghost use Rattle.urb_stable.specs.KeptDrafts.{Keeps};
+ghost use Rattle.urb_stable.specs.StoredBatches.{next_of, once_claimed};
 
-use crate::{Doubt, Receipt, Record, Stable, StoreFault};
+use crate::{Doubt, Receipt, Record, Stable, StoreFault, StoredBatch};
 use std::alloc::{Allocator, Global};
 use std::marker::Model;
 use urb_names::{Message, NodeId};
@@ -76,6 +77,26 @@ impl<A: Allocator> Draft<A> {
         match store.store(pos, &entry) {
             Ok(()) => Ok(Receipt::new(node, pos, entry)),
             Err(fault) => Err(Doubt::new(node, fault)),
+        }
+    }
+
+    /// Claims a record that a store kept before the node drafted it, and gives the draft's receipt.
+    /// The next record of the batch must be this draft's, at its node and position. Else the draft
+    /// comes back, and the batch is unchanged. Stores nothing, and allocates no memory.
+    pub fn claim(self, batch: &mut StoredBatch<A>) -> Result<Receipt<A>, Draft<A>>
+        // A receipt belongs to this draft, and the batch moves on by one.
+        ensures claimed { IfOk result (λ receipt. (receipt ≡ self) × (next_of batch.old ≡ Some self)
+            × (batch.new ≡ once_claimed batch.old)) }
+        // Only a draft that isn't the batch's next record comes back.
+        ensures refused { IfErr result (λ draft. (draft ≡ self) × (¬ (next_of batch.old ≡ Some self))
+            × (batch.new ≡ batch.old)) }
+    {
+        if batch.is_next(self.node, self.pos, &self.entry) {
+            batch.move_on();
+            let Draft { node, pos, entry } = self;
+            Ok(Receipt::new(node, pos, entry))
+        } else {
+            Err(self)
         }
     }
 }

@@ -14,6 +14,17 @@
 //! let misfit = images.first_misfit(config);              // `None` if they fit together
 //! ```
 //!
+//! Records that a node will draft one after the other may also be stored together, before it drafts
+//! them. One sync then serves them all:
+//!
+//! ```text
+//! let mut batch = store_ahead(node, pos, records, &mut store)?; // all of them are stored, or none
+//! match draft.claim(&mut batch) {
+//!     Ok(receipt) => ..,                                 // the draft was the batch's next record
+//!     Err(draft) => ..,                                  // it was another one
+//! }
+//! ```
+//!
 //! `Stable` is the contract of every storage. `MemStable` is a storage in memory, which can be
 //! armed to fail. Nothing here removes or changes a stored record.
 #![tactic(auto)]
@@ -28,6 +39,7 @@ mod memory;
 mod receipt;
 mod record;
 mod stable;
+mod stored_batch;
 
 pub use doubt::Doubt;
 pub use draft::Draft;
@@ -37,3 +49,4 @@ pub use memory::{Failure, MemStable};
 pub use receipt::Receipt;
 pub use record::{Record, recall_records};
 pub use stable::{Stable, StoreFault};
+pub use stored_batch::{StoredBatch, store_ahead};

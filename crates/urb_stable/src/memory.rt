@@ -1,19 +1,22 @@
 //! A store in memory.
 ghost use Rattle.std.specs.Prelude.{◌≡◌, ◌+◌, List, [], ◌∷◌, ◌++◌, false, length, IsTrue, OnOk};
-ghost use Rattle.std.specs.Prelude.{OnErr, IfOk, IfErr};
+ghost use Rattle.std.specs.Prelude.{OnErr, IfOk, IfErr, Ok};
 ghost use Rattle.urb_stable.specs.MemoryStores.{empty_memory, armed_with, Retrieves, Stores};
-ghost use Rattle.urb_stable.specs.internal.MemoryCalls.{StoresInMemory, retrieved};
+ghost use Rattle.urb_stable.specs.internal.MemoryCalls.{StoresInMemory, StoresAllInMemory, retrieved};
 ghost use Rattle.urb_stable.specs.Entries.{Entry};
 ghost use Rattle.urb_stable.specs.StableStorage.{IsContents, IsContentsOr, is_out_of_place, is_place};
 ghost use Rattle.urb_stable.specs.StableStorage.{is_bad_row, IsPlaced, IsAppended, LeavesDoubt};
 ghost use Rattle.urb_stable.specs.StableStorage.{CountsFailures, list_in, IsRetrieved, SettlesDoubt};
+ghost use Rattle.urb_stable.specs.StoredTogether.{is_misplaced, AreAppended, LeavesNoRecord};
+ghost use Rattle.urb_stable.specs.StoredTogether.{MovesPlace, IsContentsOrAll};
 
 use crate::{Record, Stable, StoreFault};
 use std::alloc::{Allocator, Global};
 use std::marker::Model;
 use urb_names::{Message, NoMemory};
 
-/// How a call of `store` fails in memory, if a test or a script has armed it.
+/// How a call of `store` fails in memory, if a test or a script has armed it. An armed call of
+/// `store_all` returns `Device` and keeps none of its records, with either failure.
 #[derive(Clone, Copy, Debug, PartialEq, Eq)]
 pub enum Failure {
     /// The call returns `Device`, and the records stay as they were.
@@ -83,6 +86,20 @@ fn copy_all<A: Allocator + Copy>(
     Ok(copies)
 }
 
+// Appends copies of all these records, or none. All memory is reserved before the list changes.
+fn append_all<A: Allocator + Copy>(
+    records: &mut Vec<Record<Message<A>>, A>,
+    alloc: A,
+    entries: &[Record<Message<A>>],
+) -> Result<(), NoMemory>
+    ensures ok { OnOk result (records.new.items ≡ records.old.items ++ entries.now) }
+    ensures err { OnErr result (records.new.items ≡ records.old.items) }
+{
+    let mut copies = copy_all(entries, alloc)?;
+    records.append(&mut copies)?;
+    Ok(())
+}
+
 impl<A: Allocator + Copy> MemStable<A> {
     /// A store with no records. Allocates no memory; its records' memory comes from `alloc`.
     pub fn new(alloc: A) -> MemStable<A>
@@ -98,9 +115,10 @@ impl<A: Allocator + Copy> MemStable<A> {
         }
     }
 
-    /// Makes the next call of `store` fail, apart from calls that return `Place`. If a failure was
-    /// armed before and not used, this one replaces it. After 2 ^ 64 - 1 failures no further one
-    /// can be counted, so an armed call returns `NoMemory` and keeps nothing.
+    /// Makes the next call of `store` or `store_all` fail, apart from calls that return `Place` or
+    /// store an empty list. If a failure was armed before and not used, this one replaces it. After
+    /// 2 ^ 64 - 1 failures no further one can be counted, so an armed call returns `NoMemory` and
+    /// keeps nothing.
     pub fn arm(&mut self, failure: Failure)
         ensures { self.new ≡ armed_with failure self.old }
     {
@@ -185,6 +203,55 @@ impl<A: Allocator + Copy> Stable for MemStable<A> {
             return Err(StoreFault::Device);
         }
         self.certain += 1;
+        Ok(())
+    }
+
+    fn store_all(&mut self, pos: u32, entries: &[Record<Message<A>>]) -> Result<(), StoreFault>
+        // The promises of every store.
+        ensures placed { IsPlaced
+            (is_misplaced self.old.doubtful (length self.old.certain + 1) pos entries.now)
+            (length self.old.certain + 1) result }
+        ensures same { IsTrue
+            (is_misplaced self.old.doubtful (length self.old.certain + 1) pos entries.now)
+            → self.new ≡ self.old }
+        ensures nothing { entries.now ≡ []
+            → is_misplaced self.old.doubtful (length self.old.certain + 1) pos [] ≡ false
+            → (result ≡ Ok tt) × (self.new ≡ self.old) }
+        ensures appended { AreAppended self.old.certain self.new.certain entries.now result }
+        ensures doubted { LeavesNoRecord self.new.doubtful self.new.doubt result }
+        ensures moved { MovesPlace (length self.old.certain + 1) (length self.new.certain + 1)
+            (length entries.now) result }
+        ensures stop { (records : List Entry)
+            → IsContents self.new.certain self.new.doubt records
+            → IsContentsOrAll entries.now self.old.certain self.old.doubt records }
+        ensures counts { CountsFailures self.old.failures self.new.failures result }
+
+        // The exact result and effect if the records are in place (the result isn't `Place`).
+        ensures exact { is_misplaced self.old.doubtful (length self.old.certain + 1) pos
+            entries.now ≡ false
+            → StoresAllInMemory self.old entries.now result self.new }
+    {
+        let next = self.next();
+        let room = (u32::MAX - next) as usize;
+        if pos != next || self.doubtful || room < entries.len() {
+            return Err(StoreFault::Place(next));
+        }
+        if entries.is_empty() {
+            return Ok(());
+        }
+        if let Some(_) = self.armed.take() {
+            self.doubtful = true;
+            if self.failures == u64::MAX {
+                return Err(StoreFault::NoMemory);
+            }
+            self.failures += 1;
+            return Err(StoreFault::Device);
+        }
+        if append_all(&mut self.records, self.alloc, entries).is_err() {
+            self.doubtful = true;
+            return Err(StoreFault::NoMemory);
+        }
+        self.certain += entries.len() as u32;
         Ok(())
     }
 

@@ -6,7 +6,7 @@ use std::alloc::{Allocator, Global};
 use std::marker::Model;
 use urb_names::{Message, NodeId};
 
-/// Evidence that a store kept a node's record. Only `Draft::keep` makes one.
+/// Evidence that a store kept a node's record. Only `Draft::keep` and `Draft::claim` make one.
 #[derive(Drop)]
 #[derive_where(Debug)]
 pub struct Receipt<A: Allocator = Global> {
@@ -24,7 +24,7 @@ impl<A: Allocator> Model for Receipt<A> {
 }
 
 impl<A: Allocator> Receipt<A> {
-    // The receipt after a store kept this record; only `Draft::keep` calls it.
+    // The receipt after a store kept this record; only `Draft::keep` and `Draft::claim` call it.
     pub(crate) fn new(node: NodeId, pos: u32, entry: Record<Message<A>>) -> Receipt<A>
         ensures { result ≡ record { node = node; pos = pos; entry = entry } }
     {

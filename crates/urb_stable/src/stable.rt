@@ -1,11 +1,14 @@
 //! Stable storage: the contract of every store.
-ghost use Rattle.std.specs.Prelude.{◌≡◌, ◌+◌, List, ℕ, Bool, Option, Result, length, IsTrue};
+ghost use Rattle.std.specs.Prelude.{◌≡◌, ◌+◌, List, [], ℕ, Bool, false, Option, Result, Ok, length};
+ghost use Rattle.std.specs.Prelude.{IsTrue};
 ghost use Rattle.urb_stable.specs.Entries.{Entry};
 ghost use Rattle.urb_stable.specs.declared.stable.StoreFault.{StoreFault as Fault};
 ghost use Rattle.urb_stable.specs.StableStorage.{refusal_of, is_out_of_place, IsContents, IsContentsOr};
 ghost use Rattle.urb_stable.specs.StableStorage.{IsPlaced, IsAppended, LeavesDoubt, CountsFailures};
 ghost use Rattle.urb_stable.specs.StableStorage.{KeepsTrust, list_in, IsRetrieved, SettlesDoubt};
 ghost use Rattle.urb_stable.specs.StableStorage.{IsAllowedFault, StaysShut, LeavesNoMore};
+ghost use Rattle.urb_stable.specs.StoredTogether.{is_misplaced, AreAppended, LeavesNoRecord};
+ghost use Rattle.urb_stable.specs.StoredTogether.{MovesPlace, IsContentsOrAll};
 
 use crate::Record;
 use std::alloc::{AllocError, AllocFailed, Allocator};
@@ -146,6 +149,47 @@ pub trait Stable {
         ensures stop { is_honest self.old
             → is_clean self.new
             → leaves_only self.new (IsContentsOr entry.now (certain self.old) (doubt self.old)) }
+        ensures rest { is_honest self.new
+            → leaves_only self.new (IsContents (certain self.new) (doubt self.new)) }
+        // `Device` comes only if the count of failures rose.
+        ensures counts { CountsFailures (failures self.old) (failures self.new) result }
+        // If the storage has ever returned something other than what was written, it never counts
+        // as clean again. A clean storage that was honest stays honest or is shut.
+        ensures trust { KeepsTrust (is_clean self.old) (is_honest self.old) (is_clean self.new)
+            (is_honest self.new) (is_shut self.new) result };
+
+    /// Appends all these records to the others, the first at this position, or none of them. After
+    /// `Place` nothing has changed: the position isn't the next one, a `retrieve` must come first,
+    /// or the list would get longer than its greatest length. After any other fault a `retrieve`
+    /// must come first. It finds none of them. But if the failure has shut the storage, only a later
+    /// opening can tell: it finds none or all. An empty list at the next position changes nothing.
+    fn store_all(
+        &mut self,
+        pos: u32,
+        entries: &[Record<Message<Self::Alloc>>],
+    ) -> Result<(), StoreFault>
+        // The fault is `Place` exactly if the records are out of place, and then nothing changes.
+        ensures placed { IsPlaced
+            (is_misplaced (is_doubtful self.old) (place self.old) pos entries.now)
+            (place self.old) result }
+        ensures same { IsTrue (is_misplaced (is_doubtful self.old) (place self.old) pos entries.now)
+            → self.new ≡ self.old }
+        // An empty list in place is stored by doing nothing.
+        ensures nothing { entries.now ≡ []
+            → is_misplaced (is_doubtful self.old) (place self.old) pos [] ≡ false
+            → (result ≡ Ok tt) × (self.new ≡ self.old) }
+        // All records are certain after `Ok`, and none of them after a fault.
+        ensures appended { is_honest self.new
+            → AreAppended (certain self.old) (certain self.new) entries.now result }
+        ensures doubted { LeavesNoRecord (is_doubtful self.new) (doubt self.new) result }
+        // The next position is the one after these records, or as before. That holds of a storage
+        // that isn't honest, too.
+        ensures moved { MovesPlace (place self.old) (place self.new) (length entries.now) result }
+        // A stop, even during this call, leaves what the storage may hold, or its certain records
+        // followed by all of these.
+        ensures stop { is_honest self.old
+            → is_clean self.new
+            → leaves_only self.new (IsContentsOrAll entries.now (certain self.old) (doubt self.old)) }
         ensures rest { is_honest self.new
             → leaves_only self.new (IsContents (certain self.new) (doubt self.new)) }
         // `Device` comes only if the count of failures rose.

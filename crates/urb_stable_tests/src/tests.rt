@@ -1,5 +1,6 @@
 //! Calls on a store in memory, with and without failures, and refused allocations.
 
+mod batches;
 mod calls;
 mod fitting;
 mod growth;
@@ -91,6 +92,67 @@ fn a_failure_that_keeps_the_record_needs_memory_for_it(rt: HostRuntime) {
     let calm = Refusing::new(rt.alloc(), 0);
     let heap = Refusing::new(rt.alloc(), 1);
     assert!(rt; answers(&heap, &calm, &calls));
+}
+
+#[test]
+fn records_stored_together_are_all_kept(rt: HostRuntime) {
+    let calls = [
+        Call::StoreAll(1, 3, Ok(())),
+        Call::Next(4),
+        Call::Store(4, Ok(())),
+        Call::StoreAll(5, 2, Ok(())),
+        Call::Doubtful(false),
+        Call::Next(7),
+        Call::Retrieve(6),
+    ];
+    assert!(rt; answers(rt.alloc(), rt.alloc(), &calls));
+}
+
+#[test]
+fn records_out_of_place_are_refused_together(rt: HostRuntime) {
+    let calls = [
+        Call::StoreAll(2, 3, Err(StoreFault::Place(1))),
+        Call::StoreAll(2, 0, Err(StoreFault::Place(1))),
+        Call::Doubtful(false),
+        Call::StoreAll(1, 0, Ok(())),
+        Call::Next(1),
+        Call::Retrieve(0),
+    ];
+    assert!(rt; answers(rt.alloc(), rt.alloc(), &calls));
+}
+
+#[test]
+fn either_failure_keeps_no_record_of_several(rt: HostRuntime) {
+    for failure in [Failure::Old, Failure::New] {
+        let calls = [
+            Call::Store(1, Ok(())),
+            Call::Arm(failure),
+            Call::StoreAll(1, 3, Err(StoreFault::Place(2))),
+            Call::StoreAll(2, 0, Ok(())),
+            Call::StoreAll(2, 3, Err(StoreFault::Device)),
+            Call::Doubtful(true),
+            Call::Next(2),
+            Call::StoreAll(2, 3, Err(StoreFault::Place(2))),
+            Call::StoreAll(2, 0, Err(StoreFault::Place(2))),
+            Call::Retrieve(1),
+            Call::StoreAll(2, 3, Ok(())),
+            Call::Retrieve(4),
+        ];
+        assert!(rt; answers(rt.alloc(), rt.alloc(), &calls));
+    }
+}
+
+#[test]
+fn records_kept_ahead_become_receipts_or_a_doubt(rt: HostRuntime) {
+    let calls = [
+        Call::Ahead(1, 3, Ok(())),
+        Call::Ahead(4, 0, Ok(())),
+        Call::Arm(Failure::New),
+        Call::Ahead(4, 2, Err(StoreFault::Device)),
+        Call::Ahead(4, 2, Err(StoreFault::Place(4))),
+        Call::Retrieve(3),
+    ];
+    assert!(rt; answers(rt.alloc(), rt.alloc(), &calls));
 }
 
 // Whether a copy of a record is the same record, and its certificate is a different one.

@@ -8,10 +8,9 @@ use Rattle.urb_names.specs.LabelsAndContents.{Label, Content}
 use Rattle.urb_names.specs.Names.{name_lt, same_name}
 use Rattle.urb_names.specs.Pairs.{message_of}
 use Rattle.urb_names.specs.CyclicOrder.{are_rising, is_after}
-use Rattle.urb_names.proofs.RisingPairs.{name_lt-trans}
+use Rattle.urb_names.proofs.RisingPairs.{name_lt-strict, name_lt-trans}
 use Rattle.urb_names.proofs.SameNames.{same_name-same, same_name-true}
 use Rattle.urb_pending.specs.PendingSet.{first_name}
-use Rattle.urb_pending.proofs.InsertedPairs.{not_before_itself}
 use Rattle.urb_stubborn.specs.internal.TickWalks.{behind, between, is_within}
 use Rattle.urb_stubborn.proofs.PairsAfterCursor.{Pairs, after_behind, first_after}
 
@@ -146,7 +145,7 @@ behind_first cursor (p ∷ ps) q rest h e =
         ap (λ (r : Label × Content). behind (Some r.0) (p ∷ ps))
         (sym (heads p q (behind cursor ps) rest g))
         ∙ (cond-false (name_lt p.0 p.0) (p ∷ behind (Some p.0) ps) (behind (Some p.0) ps)
-        (not_before_itself p.0)
+        (name_lt-strict p.0)
         ∙ (all_pass (λ r. name_lt p.0 r.0) ps parts.0
         ∙ (sym all ∙ tails p q (behind cursor ps) rest g)))
     at false f g ih =
@@ -196,7 +195,7 @@ found_behind p all (q ∷ ps) h k =
     let parts = and_parts (name_lt p.0 q.0) (list_all (λ r. name_lt p.0 r.0) ps) h in
     let other : same_name p.0 q.0 ≡ false =
     false_from_ne_true _ (λ f. false≢true
-    (sym (not_before_itself q.0) ∙ subst (λ (x : Label). name_lt x q.0 ≡ true)
+    (sym (name_lt-strict q.0) ∙ subst (λ (x : Label). name_lt x q.0 ≡ true)
     (same_name-true p.0 q.0 f) parts.0)) in (
       cond-false (same_name p.0 q.0) (Some p.1) (message_of all q.0) other ∙ k.0,
       found_behind p all ps parts.1 k.1,

@@ -10,9 +10,8 @@ use Rattle.urb_names.specs.LabelsAndContents.{Label, Content}
 use Rattle.urb_names.specs.Names.{name_lt}
 use Rattle.urb_names.specs.CarriedPackets.{is_due}
 use Rattle.urb_names.specs.CyclicOrder.{are_rising, is_after}
-use Rattle.urb_names.proofs.RisingPairs.{name_lt-other_way, name_lt-trans}
+use Rattle.urb_names.proofs.RisingPairs.{name_lt-other_way, name_lt-strict, name_lt-trans}
 use Rattle.urb_pending.specs.PendingSet.{first_name}
-use Rattle.urb_pending.proofs.InsertedPairs.{not_before_itself}
 use Rattle.urb_stubborn.specs.Resends.{Resending}
 use Rattle.urb_stubborn.specs.internal.TickWalks.{IsPassed, behind, due_pairs}
 
@@ -143,7 +142,7 @@ first_least cursor (p ∷ ps) x h e =
         let here : p.0 ≡ x = first_is p (behind cursor ps) x g in
         and_from (not (is_after cursor p.0 && name_lt p.0 x)) _
         (nothing _ (right (is_after cursor p.0) (name_lt p.0 x)
-        (ap (λ (y : Label). name_lt y x) here ∙ not_before_itself x)))
+        (ap (λ (y : Label). name_lt y x) here ∙ name_lt-strict x)))
         (none_before cursor x ps (subst
         (λ (y : Label). list_all (λ q. name_lt y q.0) ps ≡ true) here parts.0))
     at false f ih g =
@@ -226,7 +225,7 @@ passed_fewer r cursor pairs x end first h = among pairs first
     itself : name_lt end x ≡ false
     itself =
         false_from_ne_true _ (λ e. false≢true
-        (sym (not_before_itself x) ∙ through x end x h.sender h.forward e))
+        (sym (name_lt-strict x) ∙ through x end x h.sender h.forward e))
 
     among : (ps : Pairs) → first_name (behind cursor ps) ≡ Some x
         → length (behind (Some end) ps) < length (behind cursor ps)

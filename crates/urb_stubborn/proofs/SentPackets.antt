@@ -13,7 +13,8 @@ use Rattle.urb_names.specs.Nodes.{nodes, numbers_from}
 use Rattle.urb_names.specs.Acknowledgements.{acked}
 use Rattle.urb_names.specs.CarriedPackets.{Carried, others, packets_to, to_unheard}
 use Rattle.urb_names.specs.declared.flags.Flags.{Flags}
-use Rattle.urb_pending.proofs.OwnPairs.{numbers_more}
+use Rattle.urb_pending.proofs.PairSearches.{numbers_length}
+use Rattle.urb_names.proofs.Places.{numbers_more}
 
 -- the packet of a pair from one node to another
 abbrev pub packet : ℕ → (ℕ → Flags) → ℕ → Label × Content → Carried
@@ -105,10 +106,6 @@ passing test (n ∷ ns) =
     cond_both (test n) (n ∷ filter test ns) (filter test ns) (λ ms. length ms ≤ suc (length ns))
     (λ e. omega (arith, passing test ns)) (λ e. omega (arith, passing test ns))
 
-length-numbers : (first count : ℕ) → length (numbers_from first count) ≡ count
-length-numbers first zero = refl
-length-numbers first (suc count) = ap suc (length-numbers (suc first) count)
-
 fewer : (p first count : ℕ) → first ≤ p → p < first + count
     → length (filter (λ q. not (q == p)) (numbers_from first count)) + 1 ≤ count
 fewer p first zero h k = absurd (omega arith)
@@ -121,7 +118,7 @@ fewer p first (suc count) h k =
         rw e (omega (
           arith,
           passing (λ q. not (q == p)) (numbers_from (suc first) count),
-          length-numbers (suc first) count,
+          numbers_length (suc first) count,
         ))
 
     later : (suc first ≤ p → p < suc first + count
@@ -141,7 +138,7 @@ at_most_to_all p flags n pair =
       arith,
       length-map (others n p) (λ q. packet p flags q pair),
       passing (λ q. not (q == p)) (nodes n),
-      length-numbers 1 n,
+      numbers_length 1 n,
     )
 
 -- a pair has at most a packet for each other node

@@ -40,7 +40,7 @@ higher_sender_lt x y l =
     (ne_eqb x.sender y.sender (λ e. omega arith)))
 
 -- two sorted lists give one if each element of the first comes before each of the second
-rising_append : {X : Type 0} (before : X → X → Bool) (xs ys : List X) → is_rising before xs ≡ true
+pub rising_append : {X : Type 0} (before : X → X → Bool) (xs ys : List X) → is_rising before xs ≡ true
     → is_rising before ys ≡ true → list_all (λ x. list_all (before x) ys) xs ≡ true
     → is_rising before (xs ++ ys) ≡ true
 rising_append before [] ys h k all = k

@@ -15,9 +15,10 @@ use Rattle.urb_names.specs.Acknowledgements.{acked, ack_lt}
 use Rattle.urb_names.specs.RisingLists.{is_rising}
 use Rattle.urb_names.proofs.SameNames.{same_name-same, same_name-true}
 use Rattle.urb_window.specs.Entries.{entry_lt, value_of}
-use Rattle.urb_certified.proofs.NameOrder.{name_lt-strict}
 use Rattle.urb_window.specs.NodeMasks.{marks_in, has_bit, nodes_in}
 use Rattle.urb_window.specs.internal.EntryMasks.{mask_of}
+use Rattle.urb_names.proofs.RisingPairs.{name_lt-strict}
+use Rattle.urb_window.proofs.EntryOrder.{rising_append}
 
 -- ---- the numbers that pass a test
 
@@ -151,16 +152,6 @@ all_joined test (x ∷ xs) ys h k =
     let parts = and_parts (test x) (list_all test xs) h in
     and_from (test x) (list_all test (xs ++ ys)) parts.0 (all_joined test xs ys parts.1 k)
 
-rising_joined : {X : Type 0} (before : X → X → Bool) (xs ys : List X) → is_rising before xs ≡ true
-    → is_rising before ys ≡ true → list_all (λ x. list_all (before x) ys) xs ≡ true
-    → is_rising before (xs ++ ys) ≡ true
-rising_joined before [] ys h k l = k
-rising_joined before (x ∷ xs) ys h k l =
-    let order = and_parts (list_all (before x) xs) (is_rising before xs) h in
-    let later = and_parts (list_all (before x) ys) (list_all (λ z. list_all (before z) ys) xs) l in
-    and_from (list_all (before x) (xs ++ ys)) (is_rising before (xs ++ ys))
-    (all_joined (before x) xs ys order.0 later.0) (rising_joined before xs ys order.1 k later.1)
-
 -- the pairs of one name with these nodes
 abbrev row : Label → List ℕ → List (Label × ℕ)
 row z numbers = map (λ q. (z, q)) numbers
@@ -228,6 +219,6 @@ pub marks_rise : (entries : List (Label × ℕ)) → is_rising entry_lt entries 
 marks_rise [] h = refl
 marks_rise (e ∷ es) h =
     let parts = and_parts (list_all (entry_lt e) es) (is_rising entry_lt es) h in
-    rising_joined ack_lt (row e.0 (nodes_in e.1)) (marks_in es)
+    rising_append ack_lt (row e.0 (nodes_in e.1)) (marks_in es)
     (row_rises e.0 (has_bit e.1) 1 MAX_NODES) (marks_rise es parts.1)
     (row_before e.0 (nodes_in e.1) es parts.0)

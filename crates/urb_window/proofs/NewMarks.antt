@@ -3,7 +3,7 @@ use Rattle.std.proofs.Common.{◌≡◌, ℕ, suc, ◌+◌, ◌-◌, ◌<◌, �
 use Rattle.std.proofs.Common.{◌&&◌, ◌==◌, List, [], ◌∷◌, Option, Some, None, is_some, refl, sym, ap}
 use Rattle.std.proofs.Common.{ap₂, subst, ◌∙◌, inl, inr, ◌⊎◌, arith, eq-eqb, ne_eqb, eqb-true}
 use Rattle.std.proofs.Common.{nat_lt}
-use Rattle.std.specs.Prelude.{option_map, unwrap_or}
+use Rattle.std.specs.Prelude.{unwrap_or}
 use Rattle.std.proofs.lemmas.Bool.{and_from, and_parts, cases_Bool, cases_eq, cases_lt, cond-false}
 use Rattle.std.proofs.lemmas.Bool.{cond-true, false≢true, false_from_ne_true, le-ltb}
 use Rattle.urb_names.specs.declared.limits.TheConstants.{MAX_NODES}
@@ -16,13 +16,13 @@ use Rattle.urb_names.proofs.ElementPlaces.{any_insert, placed_behind, placed_fro
 use Rattle.urb_window.specs.Entries.{entry_lt, value_of, with_value}
 use Rattle.urb_certified.specs.internal.StrictOrders.{IsOrder}
 use Rattle.urb_certified.proofs.RisingSets.{rising_same}
-use Rattle.urb_certified.proofs.NameOrder.{name_lt-strict}
 use Rattle.urb_window.specs.NodeMasks.{marks_in, has_bit, nodes_in}
 use Rattle.urb_window.specs.internal.EntryMasks.{mask_of}
 use Rattle.urb_window.proofs.AckOrder.{ack_lt-one_way, ack_lt-trans, acks_ordered, same_ack}
 use Rattle.urb_window.proofs.MaskBits.{set_is, set_more}
 use Rattle.urb_window.proofs.MaskPairs.{acked_is, marks_rise, is_one_of, none_behind, none_below}
 use Rattle.urb_window.proofs.MaskPairs.{one_between}
+use Rattle.urb_names.proofs.RisingPairs.{name_lt-strict}
 
 -- ---- one more bit
 
@@ -65,12 +65,6 @@ nodes_more mask q r l u e = at (cases_lt r 1) (cases_lt r (suc MAX_NODES))
         (sym (one_between (has_bit mask) 1 MAX_NODES r h (omega arith))))
 
 -- ---- a value set under a new name or a known one
-
--- an option is Some exactly if it is after its value was changed
-pub mapped_some : {X Y : Type 0} (f : X → Y) (found : Option X)
-    → is_some (option_map f found) ≡ is_some found
-mapped_some f None = refl
-mapped_some f (Some x) = refl
 
 -- only this name's value has changed
 pub record IsMarked (old : List (Label × ℕ)) (x : Label) (v : ℕ)

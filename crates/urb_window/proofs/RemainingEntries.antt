@@ -18,12 +18,7 @@ use Rattle.urb_window.specs.internal.RowOperations.{AreOver}
 use Rattle.urb_window.specs.RowEntries.{entries_from, named}
 use Rattle.urb_window.proofs.EntryOrder.{all_entries, all_named, higher_sender_lt, lower_sender_lt}
 use Rattle.urb_window.proofs.EntryOrder.{same_sender_lt}
-
-get_within : {X : Type 0} (xs ys : List X) (j : ℕ) → j < length xs
-    → slice_get (xs ++ ys) j ≡ slice_get xs j
-get_within [] ys j l = absurd (omega arith)
-get_within (x ∷ xs) ys zero l = refl
-get_within (x ∷ xs) ys (suc j) l = get_within xs ys j (omega arith)
+use Rattle.urb_names.proofs.Places.{get_front}
 
 get_behind : {X : Type 0} (xs ys : List X) (j : ℕ) → length xs ≤ j
     → slice_get (xs ++ ys) j ≡ slice_get ys (j - length xs)
@@ -86,7 +81,7 @@ module _ {V : Type 0} where
       (slice_get (pairs_of row) j)
   entry_within rows i row j l read within =
       ap (λ es. slice_get es j) (at_row rows i row l read)
-      ∙ (get_within (named (i + 1) (pairs_of row)) (entries_at (i + 1) rows) j
+      ∙ (get_front (named (i + 1) (pairs_of row)) (entries_at (i + 1) rows) j
       (subst (λ (n : ℕ). j < n) (sym (length-map (pairs_of row) _)) within)
       ∙ slice_get-map (λ p. (name (i + 1) p.0, p.1)) (pairs_of row) j)
 

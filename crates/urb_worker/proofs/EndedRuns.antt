@@ -12,7 +12,6 @@ use Rattle.urb_group.specs.StoreContents.{WouldLeave}
 use Rattle.urb_group.specs.StoreOpenings.{HasStopped}
 use Rattle.urb_group.specs.Step.{Event}
 use Rattle.urb_group.specs.World.{World}
-use Rattle.urb_show.proofs.PastEvents.{after_none}
 use Rattle.urb_show.specs.Houses.{HouseView}
 use Rattle.urb_show.specs.Pasts.{IsLedTo}
 use Rattle.urb_stable.specs.declared.stable.Stable.{Ghosts}
@@ -22,6 +21,7 @@ use Rattle.urb_worker.specs.LastLoans.{AllRestSince, RestsSince}
 use Rattle.urb_worker.specs.NodeStores.{AreStoresAfter, IsStoreAfter, IsStoreSince}
 use Rattle.urb_worker.specs.ServedStores.{EndsWhole, numbers_from}
 use Rattle.urb_worker.specs.internal.ServedStores.{AllKeepUp, ClosesAt, KeepsUp}
+use Rattle.urb_group.proofs.recovery.EventPlans.{after-none}
 
 -- a house that is closed
 pub closes_at : (opened : GroupView) (n : ℕ) (tallies : List TallyView) (house : HouseView)
@@ -139,11 +139,11 @@ secured_stores g cluster secured =
     all_after g w 1 [] cluster.stores (λ i store got.
     record {
       contents =
-          subst (λ (v : World). IsStoreOf g (v.node (1 + i)) store) (sym (after_none w))
+          subst (λ (v : World). IsStoreOf g (v.node (1 + i)) store) (sym (after-none w))
           (subst (λ (n : ℕ). IsStoreOf g (w.node n) store) (omega arith)
           (secured.stocked.stores i store got));
       lasting =
-          subst (λ (v : World). IsLasting g (v.node (1 + i)) store) (sym (after_none w))
+          subst (λ (v : World). IsLasting g (v.node (1 + i)) store) (sym (after-none w))
           (subst (λ (n : ℕ). IsLasting g (w.node n) store) (omega arith)
           (secured.lasting i store got));
     })

@@ -1,6 +1,6 @@
 -- The number of events that a House counts in a turn, and in turns one after the other.
-use Rattle.std.proofs.Common.{◌≡◌, ◌+◌, ◌-◌, ◌^◌, ◌==◌, if◌then◌else◌, eqb-true, ◌<◌, ℕ, zero, suc}
-use Rattle.std.proofs.Common.{Bool, true, false, Ok, Err, Option, Result, ap, refl, sym, ◌∙◌}
+use Rattle.std.proofs.Common.{◌≡◌, ◌+◌, ◌-◌, ◌^◌, ◌==◌, if◌then◌else◌, eqb-true, ◌<◌, ◌≤◌, ℕ, zero}
+use Rattle.std.proofs.Common.{suc, Bool, true, false, Ok, Err, Option, Result, ap, refl, sym, ◌∙◌}
 use Rattle.std.proofs.Common.{arith, add-zero}
 use Rattle.std.specs.declared.alloc.Global.{Global}
 use Rattle.urb_group.specs.Step.{Event}
@@ -31,28 +31,21 @@ call_events : {T E : Type 0} (event : Event) (r : Result T E) (old new : HouseVi
 call_events event (Ok done) old new h = h.events
 call_events event (Err refused) old new h = same_events old new h
 
--- the beginning of a turn adds its number of events to the House's count
-pub begins_count : (old : HouseView) (j : Job) (new : HouseView) (at : Stage) (events : ℕ)
-    → Begins old j new at events → new.events ≡ count_after events old.events
-begins_count old (job.Submit p client number payload) new at events (r, takes, counts, to, is) =
-    rw is (call_events _ r old new counts)
-begins_count old (job.Arrive p bytes) new at events (r, takes, counts, to, is) =
-    rw is (call_events _ r old new counts)
-begins_count old (job.Tick p) new at events (r, ticks, counts, to, is) =
-    rw is (call_events _ r old new counts)
-begins_count old (job.Crash p) new at events (r, crashes, counts, to, is) =
-    rw is (call_events _ r old new counts)
-begins_count old (job.Restart p) new at events (state, answers, same, to, is) =
-    rw is (same_events old new same)
-begins_count old (job.Status p) new at events (same, to, is) = rw is (same_events old new same)
+-- a call has at most one event
+pub few : {T E : Type 0} (r : Result T E) → count_of r ≤ 1
+few (Ok done) = omega (arith)
+few (Err refused) = omega (arith)
 
--- the same, if the House was marked before and after the call
-pub marked_begin_counts : (first old new last : HouseView) (j : Job) (at : Stage) (events : ℕ)
-    → old ≡ first → last ≡ new → Begins old j new at events
-    → last.events ≡ count_after events first.events
-marked_begin_counts first old new last j at events before behind begins =
-    same_events new last behind ∙ begins_count old j new at events begins
-    ∙ ap (λ (h : HouseView). count_after events h.events) before
+-- the beginning of a turn has at most one event
+pub begins_few : (old : HouseView) (j : Job) (new : HouseView) (at : Stage) (events : ℕ)
+    → Begins old j new at events → events ≤ 1
+begins_few old (job.Submit p client number payload) new at events (r, takes, counts, to, is) =
+    rw is (few r)
+begins_few old (job.Arrive p bytes) new at events (r, takes, counts, to, is) = rw is (few r)
+begins_few old (job.Tick p) new at events (r, ticks, counts, to, is) = rw is (few r)
+begins_few old (job.Crash p) new at events (r, crashes, counts, to, is) = rw is (few r)
+begins_few old (job.Restart p) new at events (state, answers, same, to, is) = rw is (omega (arith))
+begins_few old (job.Status p) new at events (same, to, is) = rw is (omega (arith))
 
 -- the end of a turn adds its number of events to the House's count
 pub ends_count : (old : HouseView) (job : Job) (at : Stage) (new : HouseView) (said : Reply Global)

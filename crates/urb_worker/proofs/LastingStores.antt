@@ -1,10 +1,10 @@
 -- One node and its store, whatever the store answers: as one of a cluster's stores, and if the node
 -- went down meanwhile.
-use Rattle.std.proofs.Common.{Bool, Err, List, Ok, Option, Result, Some, [], ap, false, inl}
-use Rattle.std.proofs.Common.{inr, refl, subst, sym, true, ◌++◌, ◌∙◌, ◌∷◌, ◌≡◌, ◌⊎◌, ⊎_elim}
+use Rattle.std.proofs.Common.{Err, List, Ok, Option, Result, Some, [], ap, false, inl}
+use Rattle.std.proofs.Common.{inr, subst, sym, true, ◌++◌, ◌∙◌, ◌∷◌, ◌≡◌, ◌⊎◌, ⊎_elim}
 use Rattle.std.proofs.lemmas.Bool.{false≢true}
 use Rattle.urb_group.proofs.stops.SecuredClusters.{IsLastingOf, lasting-honest, lasting-known}
-use Rattle.urb_group.proofs.stops.SecuredClusters.{read-honest}
+use Rattle.urb_group.proofs.stops.SecuredClusters.{read-honest, still-down}
 use Rattle.urb_group.proofs.stops.StockedClusters.{leaves-held, left-by-draft, lost, rose, took}
 use Rattle.urb_group.proofs.stops.StockedClusters.{unread}
 use Rattle.urb_group.proofs.stops.StockedNodes.{Rises}
@@ -21,14 +21,6 @@ use Rattle.urb_stable.specs.PlacedRecords.{Placed}
 use Rattle.urb_stable.specs.StableStorage.{IsContents}
 use Rattle.urb_stable.specs.declared.stable.Stable.{Ghosts}
 use Rattle.urb_stable.specs.declared.stable.StoreFault.{StoreFault}
-
--- a node that stays is down if it was down
-still-down : (old new : Node) → Stays old new → is_down old.state ≡ true → is_down new.state ≡ true
-still-down old new s down = at (is_down new.state) refl
-  where
-    at : (b : Bool) → is_down new.state ≡ b → is_down new.state ≡ true
-    at true e = e
-    at false e = absurd (false≢true (sym (s.up e) ∙ down))
 
 module _ {S A : Type 0} (g : Ghosts S A) where
   -- the store of a node that is up is honest

@@ -27,7 +27,6 @@ use Rattle.urb_names.specs.declared.refusal.Refusal.{Refusal}
 use Rattle.urb_names.specs.declared.refusal.Refusal.TheVariants as refusal
 use Rattle.urb_node.specs.Replies.{Done}
 use Rattle.urb_node.specs.NodeViews.{ShowsNode}
-use Rattle.urb_show.proofs.PastEvents.{after_both}
 use Rattle.urb_show.specs.Houses.{HouseView}
 use Rattle.urb_show.specs.declared.status.Status.{Status}
 use Rattle.urb_stable.specs.StoreAnswers.{answer_of}
@@ -54,6 +53,7 @@ use Rattle.urb_worker.specs.declared.job.Job.{Job}
 use Rattle.urb_worker.specs.declared.job.Job.TheVariants as job
 use Rattle.urb_worker.specs.declared.turn_stages.Stage.{Stage}
 use Rattle.urb_worker.specs.declared.turn_stages.Stage.TheVariants as stage
+use Rattle.urb_group.proofs.recovery.EventPlans.{after-append}
 
 -- ---- a node rests
 
@@ -240,7 +240,7 @@ rested-node : (n : ℕ) (earlier later : List Event) (start : World) → HasRest
     → Stays ((after start earlier).node n) ((after start later).node n)
 rested-node n earlier later start h =
     subst (λ (w : World). Stays ((after start earlier).node n) (w.node n))
-    (sym (ap (after start) h.later_is ∙ after_both start earlier h.between))
+    (sym (ap (after start) h.later_is ∙ after-append start earlier h.between))
     (waited-stays n (after start earlier) (after (after start earlier) h.between)
     (elsewhere-waited n h.between (after start earlier) h.elsewhere))
 

@@ -1,7 +1,7 @@
 -- What is reported of a turn has happened, and a store's failure is reported.
 use Rattle.std.proofs.Common.{Bool, Err, List, None, Ok, Option, Result, Some, Vec, arith, eqb-true}
 use Rattle.std.proofs.Common.{false, if◌then◌else◌, refl, subst, sym, true, ℕ, ◌-◌, ◌==◌, ◌∙◌, ◌≡◌}
-use Rattle.std.proofs.Common.{◌≢◌, ◌≤◌}
+use Rattle.std.proofs.Common.{◌≢◌}
 use Rattle.std.specs.declared.alloc.Global.{Global}
 use Rattle.urb_group.specs.GroupCalls.{ComesUp, GoesDown, Takes}
 use Rattle.urb_group.specs.GroupViews.{GroupView}
@@ -35,6 +35,7 @@ use Rattle.urb_worker.specs.declared.job.Job.{Job}
 use Rattle.urb_worker.specs.declared.job.Job.TheVariants as job
 use Rattle.urb_worker.specs.declared.turn_stages.Stage.{Stage}
 use Rattle.urb_worker.specs.declared.turn_stages.Stage.TheVariants as stage
+use Rattle.urb_worker.proofs.EventCounts.{few}
 
 -- ---- what a report says of its turn
 
@@ -79,10 +80,6 @@ return-of p (reply.Drafted x position) c e = absurd (cc)
 return-of p (reply.Same answer) c e = absurd (cc)
 return-of p (reply.Stored done) c e = absurd (cc)
 return-of p (reply.Sent packets) c e = absurd (cc)
-
-count-low : {T E : Type 0} (r : Result T E) → count_of r ≤ 1
-count-low (Ok done) = omega arith
-count-low (Err refused) = omega arith
 
 -- ---- what happened in the turn
 
@@ -219,7 +216,7 @@ module _ {S A : Type 0} (g : Ghosts S A) (before after : S) (lent given_back aga
       → HasChanged c lent.group given_back.group again.group left.group
 
   late : {T E : Type 0} (r : Result T E) → events ≡ count_of r → n ≡ 2 → n - events ≡ 0 → ⊥
-  late r is two none = let low = count-low r in omega arith
+  late r is two none = let low = few r in omega arith
 
   taken-so : (j : Job) (p : ℕ) (event : Event) (r : Result (Taken Global) Refusal) (c : Change)
       → Takes lent.group p event r given_back.group → at ≡ taken_stage r → events ≡ count_of r

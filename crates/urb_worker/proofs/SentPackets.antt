@@ -1,6 +1,6 @@
 -- The packets that a worker sends, one after the other.
-use Rattle.std.proofs.Common.{List, None, Some, [], ap, arith, length, refl, slice_get}
-use Rattle.std.proofs.Common.{subst, sym, take, ℕ, ◌+◌, ◌++◌, ◌∙◌, ◌∷◌, ◌≡◌, suc, zero}
+use Rattle.std.proofs.Common.{List, None, Some, [], ap, length, refl, slice_get}
+use Rattle.std.proofs.Common.{add-one, subst, suc, sym, take, zero, ℕ, ◌++◌, ◌+◌, ◌∙◌, ◌∷◌, ◌≡◌}
 use Rattle.std.proofs.Math.Seq.{take-length}
 use Rattle.urb_node.proofs.ImagePairs.{take_get}
 use Rattle.urb_names.specs.CarriedPackets.{Carried}
@@ -23,16 +23,13 @@ one_more before [] between packet after so_far last =
 one_more before (first ∷ packets) between packet after so_far last =
     (so_far.0, so_far.1, one_more so_far.0 packets between packet after so_far.2 last)
 
-next : (i : ℕ) → i + 1 ≡ suc i
-next i = omega arith
-
 -- one packet more was sent
 pub sends_next : (before between after : List Act) (packets : List Carried) (i : ℕ)
     (packet : Carried) → slice_get packets i ≡ Some packet → Sends before (take i packets) between
     → MaySend between packet after → Sends before (take (i + 1) packets) after
 sends_next before between after packets i packet got so_far last =
     subst (λ (some : List Carried). Sends before some after)
-    (sym (ap (λ j. take j packets) (next i) ∙ take_get packets i packet got))
+    (sym (ap (λ j. take j packets) (add-one i) ∙ take_get packets i packet got))
     (one_more before (take i packets) between packet after so_far last)
 
 no_more : (packets : List Carried) (i : ℕ) → slice_get packets i ≡ None
@@ -48,7 +45,7 @@ pub sends_past : (before after : List Act) (packets : List Carried) (i : ℕ)
     → Sends before (take (i + 1) packets) after
 sends_past before after packets i none so_far =
     subst (λ (some : List Carried). Sends before some after)
-    (sym (ap (λ j. take j packets) (next i) ∙ no_more packets i none)) so_far
+    (sym (ap (λ j. take j packets) (add-one i) ∙ no_more packets i none)) so_far
 
 -- all packets were sent
 pub sends_all : (before after : List Act) (packets : List Carried) (n : ℕ) → n ≡ length packets

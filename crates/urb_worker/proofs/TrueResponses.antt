@@ -4,8 +4,9 @@ use Rattle.std.proofs.Common.{inl, inr, length, refl, subst, sym, true, ℕ, ◌
 use Rattle.std.proofs.Common.{⊎_elim, ◌⊎◌}
 use Rattle.std.proofs.lemmas.Bool.{false≢true}
 use Rattle.std.specs.declared.alloc.Global.{Global}
-use Rattle.urb_client.specs.Requests.{Asked, Crash as IsCrash, Read, Restart as IsRestart}
-use Rattle.urb_client.specs.Requests.{Status as IsStatus, Submit, Wait}
+use Rattle.urb_client.specs.Requests.{Ask, Asked, Read, Submit, Wait}
+use Rattle.urb_client.specs.declared.request.Control.{Control}
+use Rattle.urb_client.specs.declared.request.Control.TheVariants as control
 use Rattle.urb_client.specs.Responses.{Refused as IsRefused, Said}
 use Rattle.urb_group.proofs.moves.AcceptedSubmits.{accepted-stored, committed-stored}
 use Rattle.urb_group.proofs.shown.AgreeingWorlds.{sound-kept}
@@ -54,7 +55,8 @@ use Rattle.urb_stable.specs.declared.record.Record.TheVariants.{Cert, Pend, Pend
 use Rattle.urb_stable.specs.declared.stable.StoreFault.{StoreFault}
 use Rattle.urb_worker.proofs.GrowingPasts.{begins_grow, ends_grow, settled_past}
 use Rattle.urb_worker.proofs.TurnLoans.{one_loan}
-use Rattle.urb_worker.specs.Desks.{DeskView, HasAccepted, IsJobOf, Sees, Tells, Works, told_of}
+use Rattle.urb_worker.specs.Desks.{DeskView, HasAccepted, IsJobOf, Sees, Tells, Works, control_job}
+use Rattle.urb_worker.specs.Desks.{told_of}
 use Rattle.urb_worker.specs.Jobs.{node_of}
 use Rattle.urb_worker.specs.Loans.{IsLoan, LoansView}
 use Rattle.urb_worker.specs.Settlings.{Published}
@@ -238,9 +240,7 @@ refused_tells : (opened : GroupView) (seen history : List Event) (p : ℕ) (aske
     (number detail : ℕ) → Tells opened seen history p asked (IsRefused number detail)
 refused_tells opened seen history p (Submit c n b) number detail = tt
 refused_tells opened seen history p (Read place max) number detail = tt
-refused_tells opened seen history p IsStatus number detail = tt
-refused_tells opened seen history p IsCrash number detail = tt
-refused_tells opened seen history p IsRestart number detail = tt
+refused_tells opened seen history p (Ask control) number detail = tt
 refused_tells opened seen history p (Wait place max millis) number detail = tt
 
 module _ (opened : GroupView) (seen history : List Event) (p : ℕ) (old new : HouseView)
@@ -353,10 +353,10 @@ module _ (opened : GroupView) (seen history : List Event) (p : ℕ) (old new : H
   crash_tells : (first second : HouseView) (r : Result (Unit {0}) Refusal) (at : Stage)
       → AtTurn opened seen history first second → GoesDown first.group p (CrashOf p) r second.group
       → Counts (CrashOf p) r first second → Goes (crash_stage p r) at → Ending at
-      → TellsHere IsCrash (told_of said status)
+      → TellsHere (Ask control.Crash) (told_of said status)
   crash_tells first second (Ok tt) at turn steps counts goes e =
       let f = subst Ending goes e in
-      tells_as IsCrash (reply.WentDown p) None f.1 f.2
+      tells_as (Ask control.Crash) (reply.WentDown p) None f.1 f.2
       (record {
         sound = turn.sound;
         place = length first.past;
@@ -366,14 +366,15 @@ module _ (opened : GroupView) (seen history : List Event) (p : ℕ) (old new : H
             (prefix_same (first.past ++ CrashOf p ∷ []) second.past (sym counts.past));
       })
   crash_tells first second (Err r) at turn steps counts goes e =
-      refusal_ends IsCrash r (subst Ending goes e)
+      refusal_ends (Ask control.Crash) r (subst Ending goes e)
 
   restarted_tells : (image : List Entry) (between : HouseView) (r : Result (Unit {0}) Refusal)
       → ComesUp old.group p (RestartOf p image) r between.group
       → Counts (RestartOf p image) r old between → new.past ≡ between.past
-      → said ≡ restart_reply p r → status ≡ None → TellsHere IsRestart (told_of said status)
+      → said ≡ restart_reply p r → status ≡ None
+      → TellsHere (Ask control.Restart) (told_of said status)
   restarted_tells image between (Ok tt) comes counts same is was =
-      tells_as IsRestart (reply.Up p) None is was
+      tells_as (Ask control.Restart) (reply.Up p) None is was
       (record {
         sound = last.sound;
         place = length old.past;
@@ -385,10 +386,10 @@ module _ (opened : GroupView) (seen history : List Event) (p : ℕ) (old new : H
             (sym (same ∙ counts.past)));
       })
   restarted_tells image between (Err r) comes counts same is was =
-      tells_as IsRestart (reply.Refused r) None is was tt
+      tells_as (Ask control.Restart) (reply.Refused r) None is was tt
 
   image_tells : (r : Result (Vec Entry Global) StoreFault) → node_of j ≡ p → Ending (image_stage r)
-      → TellsHere IsRestart (told_of said status)
+      → TellsHere (Ask control.Restart) (told_of said status)
   image_tells (Ok image) e ends =
       restarted_tells image.items ends.1 ends.0
       (subst (λ (i : ℕ). ComesUp old.group i (RestartOf i image.items) ends.0 ends.1.group)
@@ -397,25 +398,25 @@ module _ (opened : GroupView) (seen history : List Event) (p : ℕ) (old new : H
       (settled_past _ _ ends.1 new settling ends.4)
       (subst (λ (i : ℕ). said ≡ restart_reply i ends.0) e ends.5) ends.6
   image_tells (Err fault) e ends =
-      tells_as IsRestart (reply.Refused (refusal_of fault)) None ends.1 ends.2 tt
+      tells_as (Ask control.Restart) (reply.Refused (refusal_of fault)) None ends.1 ends.2 tt
 
   restart_tells : (s : Option State) (at : Stage) → node_of j ≡ p → Goes (restart_stage s) at
-      → Ending at → TellsHere IsRestart (told_of said status)
+      → Ending at → TellsHere (Ask control.Restart) (told_of said status)
   restart_tells (Some state.Down) at e (inl same) ends =
       let none : ⊥ = subst Ending same ends in absurd none
   restart_tells (Some state.Down) at e (inr given) ends =
       image_tells given.0 e (subst Ending given.1 ends)
   restart_tells (Some state.Ready) at e goes ends =
-      refusal_ends IsRestart refusal.NotDown (subst Ending goes ends)
+      refusal_ends (Ask control.Restart) refusal.NotDown (subst Ending goes ends)
   restart_tells (Some state.Storing) at e goes ends =
-      refusal_ends IsRestart refusal.NotDown (subst Ending goes ends)
+      refusal_ends (Ask control.Restart) refusal.NotDown (subst Ending goes ends)
   restart_tells None at e goes ends =
-      refusal_ends IsRestart refusal.BadNode (subst Ending goes ends)
+      refusal_ends (Ask control.Restart) refusal.BadNode (subst Ending goes ends)
 
   asked_tells : (s : Option Status) → status ≡ s → TellsStatus old.group p s
-      → said ≡ status_reply p s → TellsHere IsStatus (told_of said status)
+      → said ≡ status_reply p s → TellsHere (Ask control.Status) (told_of said status)
   asked_tells (Some s) was tells is =
-      subst (λ (o : Option Status). TellsHere IsStatus (told_of said o)) (sym was)
+      subst (λ (o : Option Status). TellsHere (Ask control.Status) (told_of said o)) (sym was)
       (record {
         sound = last.sound;
         past = old.past;
@@ -428,7 +429,7 @@ module _ (opened : GroupView) (seen history : List Event) (p : ℕ) (old new : H
         told = refl;
       })
   asked_tells None was tells is =
-      tells_as IsStatus (status_reply p None) None is was tt
+      tells_as (Ask control.Status) (status_reply p None) None is was tt
 
 -- ---- any result of the job
 
@@ -491,6 +492,37 @@ module _ (opened : GroupView) (seen : List Event) (j : Job) (said : Reply Global
   seen_grows = prefix_trans seen came.1.past loans.last.back last_turn.behind
       (prefix_trans came.1.past came.2.past loans.last.back ends_on ends_there)
 
+-- what a turn of a request without fields answers is true
+control_tells : (opened : GroupView) (seen : List Event) (c : Control) (p : ℕ)
+    (said : Reply Global) (status : Option Status) (settling : Published) (loans : LoansView)
+    → CameOf opened (control_job p c) said status settling (Some loans)
+    → IsPrefix seen loans.first.lent
+    → Tells opened seen loans.last.back p (Ask c) (told_of said status)
+unfolding begun
+control_tells opened seen control.Crash p said status settling loans came behind =
+    let begun = came.6 in
+    crash_tells opened seen loans.last.back p came.1 came.2 came.5
+    (last_turn opened seen (job.Crash p) said status settling loans came behind)
+    (job.Crash p) said status settling came.3 begun.0 begun.1 begun.5.0 came.0
+    (first_turn opened seen (job.Crash p) said status settling loans came behind)
+    begun.5.1 begun.5.2
+    (subst (λ (s : Stage). Goes s came.0) begun.5.3 begun.6) came.7
+control_tells opened seen control.Restart p said status settling loans came behind =
+    let begun = came.6 in
+    restart_tells opened seen loans.last.back p came.1 came.2 came.5
+    (last_turn opened seen (job.Restart p) said status settling loans came behind)
+    (job.Restart p) said status settling came.3 begun.5.0 came.0 refl
+    (subst (λ (s : Stage). Goes s came.0) begun.5.3 begun.6) came.7
+control_tells opened seen control.Status p said status settling loans came behind =
+    let begun = came.6 in
+    let asking : came.0 ≡ stage.Asking = subst (λ (s : Stage). Goes s came.0) begun.5.1 begun.6 in
+    let ended =
+    subst (λ (s : Stage). Ends came.1 (job.Status p) s came.2 said status settling came.3)
+    asking came.7 in
+    asked_tells opened seen loans.last.back p came.1 came.2 came.5
+    (last_turn opened seen (job.Status p) said status settling loans came behind)
+    (job.Status p) said status settling came.3 status refl ended.1 ended.2
+
 came_tells : (opened : GroupView) (seen : List Event) (asked : Asked) (p : ℕ) (done : Job)
     (said : Reply Global) (status : Option Status) (settling : Published) (loans : LoansView)
     → IsJobOf p asked done → CameOf opened done said status settling (Some loans)
@@ -519,32 +551,9 @@ came_tells opened seen (Submit c n bytes) p (job.Submit q of ranked payload) sai
     (subst (λ (i : ℕ).
     Tells opened seen loans.last.back q (Submit i ranked payload) (told_of said status)) is.1
     tells)))
-came_tells opened seen IsCrash p (job.Crash q) said status settling loans is came behind =
-    let begun = came.6 in
-    subst (λ (i : ℕ). Tells opened seen loans.last.back i IsCrash (told_of said status)) is
-    (crash_tells opened seen loans.last.back q came.1 came.2 came.5
-    (last_turn opened seen (job.Crash q) said status settling loans came behind)
-    (job.Crash q) said status settling came.3 begun.0 begun.1 begun.5.0 came.0
-    (first_turn opened seen (job.Crash q) said status settling loans came behind)
-    begun.5.1 begun.5.2
-    (subst (λ (s : Stage). Goes s came.0) begun.5.3 begun.6) came.7)
-came_tells opened seen IsRestart p (job.Restart q) said status settling loans is came behind =
-    let begun = came.6 in
-    subst (λ (i : ℕ). Tells opened seen loans.last.back i IsRestart (told_of said status)) is
-    (restart_tells opened seen loans.last.back q came.1 came.2 came.5
-    (last_turn opened seen (job.Restart q) said status settling loans came behind)
-    (job.Restart q) said status settling came.3 begun.5.0 came.0 refl
-    (subst (λ (s : Stage). Goes s came.0) begun.5.3 begun.6) came.7)
-came_tells opened seen IsStatus p (job.Status q) said status settling loans is came behind =
-    let begun = came.6 in
-    let asking : came.0 ≡ stage.Asking = subst (λ (s : Stage). Goes s came.0) begun.5.1 begun.6 in
-    let ended =
-    subst (λ (s : Stage). Ends came.1 (job.Status q) s came.2 said status settling came.3)
-    asking came.7 in
-    subst (λ (i : ℕ). Tells opened seen loans.last.back i IsStatus (told_of said status)) is
-    (asked_tells opened seen loans.last.back q came.1 came.2 came.5
-    (last_turn opened seen (job.Status q) said status settling loans came behind)
-    (job.Status q) said status settling came.3 status refl ended.1 ended.2)
+came_tells opened seen (Ask control) p done said status settling loans is came behind =
+    control_tells opened seen control p said status settling loans
+    (subst (λ (j : Job). CameOf opened j said status settling (Some loans)) is came) behind
 came_tells opened seen asked p done said status settling loans is came behind = absurd is
 
 outcome_tells : (opened : GroupView) (seen later : List Event) (ran : Bool) (asked : Asked) (p : ℕ)

@@ -1,7 +1,7 @@
 -- A node to which nothing happened except a crash; and what an event says about a node that holds a
 -- draft or is down.
 use Rattle.std.proofs.Common.{Bool, List, Option, Some, [], ap, eq-eqb, eqb-true, false, inl, inr}
-use Rattle.std.proofs.Common.{length, refl, subst, suc, sym, true, ℕ, ◌&&◌, ◌++◌, ◌==◌, ◌∙◌, ◌∷◌, ◌≡◌}
+use Rattle.std.proofs.Common.{length, refl, subst, suc, sym, true, ℕ, ◌&&◌, ◌==◌, ◌∙◌, ◌∷◌, ◌≡◌}
 use Rattle.std.proofs.Common.{◌⊎◌, ⊎_elim}
 use Rattle.std.proofs.lemmas.Bool.{and_from, cond-false, cond-true, cond_both, false≢true}
 use Rattle.urb_group.proofs.steps.DraftsInSteps.{event_node, step-elsewhere, step-size}
@@ -22,11 +22,12 @@ use Rattle.urb_node.specs.Steps.{commits, crashes, done, doubt, fails, goes_down
 use Rattle.urb_node.specs.Steps.{keeps_record, next_position, refuses, same_record}
 use Rattle.urb_node.specs.declared.cause.Cause.{Cause}
 use Rattle.urb_stable.specs.Entries.{Entry}
-use Rattle.urb_show.proofs.PastEvents.{after_both}
 use Rattle.urb_show.specs.Houses.{HouseView}
 use Rattle.urb_show.specs.Pasts.{IsLedTo}
 use Rattle.urb_stable.specs.PlacedRecords.{Placed}
 use Rattle.urb_worker.specs.NodeStores.{AreElsewhere, HasRested, is_own}
+use Rattle.urb_group.proofs.recovery.EventPlans.{after-append}
+use Rattle.urb_group.proofs.stops.StockedNodes.{node-after}
 
 -- ---- what one event says about its node
 
@@ -35,13 +36,6 @@ reply-at : (w : World) (p : ℕ) (outcome : Reply × Node) → is_node w.size.n 
 reply-at w p outcome there =
     ap (λ (o : Reply × World). o.0)
     (cond-true (is_node w.size.n p) (world_after w p outcome) (Refused refusal.BadNode, w) there)
-
-node-at : (w : World) (p : ℕ) (outcome : Reply × Node) → is_node w.size.n p ≡ true
-    → (at_node w p outcome).1.node p ≡ outcome.1
-node-at w p outcome there =
-    ap (λ (o : Reply × World). o.1.node p)
-    (cond-true (is_node w.size.n p) (world_after w p outcome)
-    (Refused refusal.BadNode, w) there) ∙ updated-at w.node p outcome.1
 
 -- node n of this world holds this draft
 pub record HoldsAt (w : World) (n : ℕ) (draft : Placed) : Type 0 where
@@ -112,7 +106,7 @@ crash-held w n draft h =
   where
     is : (at_node w n (crashes n (w.node n))).1.node n ≡ (goes_down n (w.node n)).1
     is =
-        node-at w n (crashes n (w.node n)) h.there
+        node-after w n (crashes n (w.node n)) h.there
         ∙ ap (λ (o : Reply × Node). o.1)
         (cond-false (is_down (w.node n).state) (refuses (w.node n) refusal.Down)
         (goes_down n (w.node n)) (ap is_down h.storing))
@@ -189,7 +183,7 @@ crashed-twice n w v size e = at (is_node w.size.n n) refl
         ≡ (at_node w n (crashes n (w.node n))).1.node n
     at true there =
         crash-down v n (subst (λ (node : Node). is_down node.state ≡ true)
-        (sym (e ∙ node-at w n (crashes n (w.node n)) there))
+        (sym (e ∙ node-after w n (crashes n (w.node n)) there))
         (fallen (is_down (w.node n).state) refl)) ∙ e
       where
         fallen : (b : Bool) → is_down (w.node n).state ≡ b
@@ -217,9 +211,9 @@ crash-alike n v w size e = at (is_node w.size.n n) refl
         → (at_node v n (crashes n (v.node n))).1.node n
         ≡ (at_node w n (crashes n (w.node n))).1.node n
     at true there =
-        node-at v n (crashes n (v.node n)) (ap (λ (l : Limits). is_node l.n n) size ∙ there)
+        node-after v n (crashes n (v.node n)) (ap (λ (l : Limits). is_node l.n n) size ∙ there)
         ∙ (ap (λ (node : Node). (crashes n node).1) e
-        ∙ sym (node-at w n (crashes n (w.node n)) there))
+        ∙ sym (node-after w n (crashes n (w.node n)) there))
     at false none =
         ap (λ (o : Reply × World). o.1.node n)
         (cond-false (is_node v.size.n n) (world_after v n (crashes n (v.node n)))
@@ -331,5 +325,5 @@ rested-waits opened start n earlier later opening rested leads w h =
     same : after start later.past ≡ after w rested.between
     same =
         ap (after start) rested.later_is
-        ∙ (after_both start earlier.past rested.between
+        ∙ (after-append start earlier.past rested.between
         ∙ ap (λ (v : World). after v rested.between) (sym h.led))

@@ -1,7 +1,8 @@
 -- What the desk of a client's session answers.
 use Rattle.std.specs.Prelude.{Bool, false, not, true, ◌||◌, ◌≡◌}
 use Rattle.urb_client.specs.declared.format.TheConstants.{UNKNOWN_OPCODE}
-use Rattle.urb_client.specs.Requests.{Asked, Crash, Restart}
+use Rattle.urb_client.specs.Requests.{Ask, Asked}
+use Rattle.urb_client.specs.declared.request.Control.TheVariants.{Crash, Restart}
 use Rattle.urb_client.specs.Responses.{Refused, Said}
 use Rattle.urb_group.specs.GroupViews.{GroupView}
 use Rattle.urb_worker.specs.Desks.{AnswersAt, DeskView, RefusedAt}
@@ -13,8 +14,8 @@ pub record ClientDeskView : Type 0 where
 
 -- the request crashes or restarts the node
 abbrev pub is_of_a_crash : Asked → Bool
-is_of_a_crash Crash = true
-is_of_a_crash Restart = true
+is_of_a_crash (Ask Crash) = true
+is_of_a_crash (Ask Restart) = true
 is_of_a_crash _ = false
 
 -- the node takes the request from its clients

@@ -5,8 +5,9 @@ use Rattle.std.specs.declared.alloc.Global.{Global}
 use Rattle.urb_names.specs.Names.{name}
 use Rattle.urb_names.specs.LabelsAndContents.{Content, Label}
 use Rattle.urb_names.specs.RefusalReports.{detail_of, number_of}
-use Rattle.urb_client.specs.Requests.{Asked, Crash as IsCrash, Read, Restart as IsRestart}
-use Rattle.urb_client.specs.Requests.{Status as IsStatus, Submit, Wait}
+use Rattle.urb_client.specs.Requests.{Ask, Asked, Read, Submit, Wait}
+use Rattle.urb_client.specs.declared.request.Control.{Control}
+use Rattle.urb_client.specs.declared.request.Control.TheVariants as control
 use Rattle.urb_client.specs.Pages.{SaysPage}
 use Rattle.urb_client.specs.Responses.{Accepted, Done as IsDone, Refused, Said, Status as HasStatus}
 use Rattle.urb_client.specs.declared.response.NodeState.{NodeState}
@@ -105,13 +106,17 @@ abbrev pub LearnsTold : Option ToldView → ReaderView → ReaderView → Type 0
 LearnsTold None before after = after ≡ before
 LearnsTold (Some token) before after = Learns token before after
 
+-- the job at node p that does what a request without fields asks
+abbrev pub control_job : ℕ → Control → Job
+control_job p control.Status = job.Status p
+control_job p control.Crash = job.Crash p
+control_job p control.Restart = job.Restart p
+
 -- the job is what this request asks at node p
 abbrev pub IsJobOf : ℕ → Asked → Job → Type 0
 IsJobOf p (Submit client number payload) (job.Submit q of ranked bytes) =
     (q ≡ p) × (of ≡ client) × (ranked ≡ number) × (bytes ≡ payload)
-IsJobOf p IsStatus (job.Status q) = q ≡ p
-IsJobOf p IsCrash (job.Crash q) = q ≡ p
-IsJobOf p IsRestart (job.Restart q) = q ≡ p
+IsJobOf p (Ask control) done = done ≡ control_job p control
 IsJobOf p asked other = ⊥
 
 -- The turn got the House behind all events that the desk had seen. The desk has now seen all events
@@ -185,10 +190,10 @@ Tells opened seen history p asked (Refused number detail) = Unit {0}
 Tells opened seen history p (Submit client number payload) (Accepted seq) =
     HasAccepted opened seen history p
     (record { client = client; number = number; payload = payload }) seq
-Tells opened seen history p IsStatus (HasStatus state own logged) =
+Tells opened seen history p (Ask control.Status) (HasStatus state own logged) =
     WasSo opened seen history p state own logged
-Tells opened seen history p IsCrash IsDone = HasCrashed opened seen history p
-Tells opened seen history p IsRestart IsDone = HasRestarted opened seen history p
+Tells opened seen history p (Ask control.Crash) IsDone = HasCrashed opened seen history p
+Tells opened seen history p (Ask control.Restart) IsDone = HasRestarted opened seen history p
 Tells opened seen history p asked said = ⊥
 
 -- A desk answers a read and a wait by the published lists alone, and all other requests by its

@@ -12,3 +12,5 @@ pub mod Pulses
 pub mod OwnJobs
 pub mod Doors
 pub mod SeenEvents
+pub mod Sends
+pub mod TurnExamples

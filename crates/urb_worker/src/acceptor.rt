@@ -6,12 +6,13 @@ use crate::door::Door;
 use crate::stations::rest;
 use crate::{ClientDesk, NodeDesk, Stop, StopSeen};
 use std::alloc::Global;
+use std::io;
 use std::io::{Read, Write};
 use std::net::Shutdown;
 use std::sync::{Arc, Wait};
 use std::thread::{Builder, Scope};
 use std::time::{Clock, Duration};
-use urb_client::{BufferedAnswers, Response, encode_response, session};
+use urb_client::{BufferedAnswers, Response, SessionEnd, encode_response, serve_session};
 use urb_local::LocalStream;
 use urb_names::{MAX_PAYLOAD, NoMemory, Refusal};
 use urb_show::HouseName;
@@ -73,30 +74,35 @@ struct Visit<'a> {
     place: usize,
 }
 
-// Runs one client's session to its end. The answers to requests that came together are sent
-// together.
-fn run_session<K: HouseName, R: Wait + Clock>(rt: &R, visit: &Visit<'_>, desk: NodeDesk<'_, K, R>) {
+// Runs one client's session to its end, and returns the witness of the end. The answers to requests
+// that came together are sent together. An error of the system, or refused memory, before the
+// session begins is returned too.
+fn run_session<K: HouseName, R: Wait + Clock>(
+    rt: &R,
+    visit: &Visit<'_>,
+    desk: NodeDesk<'_, K, R>,
+) -> io::Result<SessionEnd> {
     let alloc = visit.alloc;
     let stream = &*visit.stream;
-    let Ok(input) = ClientInput::new(rt, stream, visit.stop, visit.connections) else {
-        return;
-    };
-    let Ok(answers) = BufferedAnswers::new(alloc, stream) else {
-        return;
-    };
-    let Ok(mut reader) = answers.reader(alloc, input) else {
-        return;
-    };
+    let input = ClientInput::new(rt, stream, visit.stop, visit.connections)?;
+    let answers = BufferedAnswers::new(alloc, stream)?;
+    let mut reader = answers.reader(alloc, input)?;
     let may_crash = visit.connections.limits().may_crash;
     let mut desk = ClientDesk::new(desk, &answers, may_crash);
-    let _ = session(alloc, &mut reader, &mut answers.writer(), &mut desk);
+    let end = serve_session(alloc, &mut reader, &mut answers.writer(), &mut desk);
     let _ = answers.send_all();
+    Ok(end)
 }
 
-// Serves one client, and then frees its place.
-fn serve_client<K: HouseName, R: Wait + Clock>(rt: &R, visit: Visit<'_>, desk: NodeDesk<'_, K, R>) {
-    run_session(rt, &visit, desk);
+// Serves one client, and then frees its place. Returns what came of the session.
+fn serve_client<K: HouseName, R: Wait + Clock>(
+    rt: &R,
+    visit: Visit<'_>,
+    desk: NodeDesk<'_, K, R>,
+) -> io::Result<SessionEnd> {
+    let end = run_session(rt, &visit, desk);
     visit.connections.leave(rt, visit.place);
+    end
 }
 
 // Starts a session for a client that has connected. If there is no place for it, no memory or no

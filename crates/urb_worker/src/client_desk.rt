@@ -11,7 +11,7 @@ use std::io::Write;
 use std::marker::Model;
 use std::sync::Wait;
 use std::time::Clock;
-use urb_client::{BufferedAnswers, Desk, Request, Response, UNKNOWN_OPCODE};
+use urb_client::{BufferedAnswers, Control, Desk, Request, Response, UNKNOWN_OPCODE};
 use urb_names::{NoMemory, Refusal};
 use urb_show::HouseName;
 
@@ -55,7 +55,7 @@ fn is_taken(may_crash: bool, request: &Request) -> bool
     ensures { result ≡ is_taken may_crash (asked_by request.now) }
 {
     match request {
-        Request::Crash | Request::Restart => may_crash,
+        Request::Ask(Control::Crash | Control::Restart) => may_crash,
         _ => true,
     }
 }

@@ -1,14 +1,14 @@
 //! The desk of a running node: it passes requests to the node's worker, and does reads itself.
 
 ghost use Rattle.std.specs.Prelude.{◌≡◌, ◌⊎◌, ◌≤◌, ◌↔◌, ◌-◌, [], IfOk, IsTrue, MatchOption, OnErr};
-ghost use Rattle.std.specs.Prelude.{length};
+ghost use Rattle.std.specs.Prelude.{MatchResult, length};
 ghost use Rattle.urb_client.specs.declared.format.TheConstants.{MOST_ENTRIES};
 ghost use Rattle.urb_client.specs.Requests.{asked_by};
 ghost use Rattle.urb_client.specs.Responses.{said_by};
 ghost use Rattle.urb_show.specs.Lists.{list_at};
 ghost use Rattle.urb_show.specs.Pages.{IsPageOf};
 ghost use Rattle.urb_worker.specs.Desks.{IsJobOf, LearnsTold, Looks, Reads, Sees, Tells, Works};
-ghost use Rattle.urb_worker.specs.Desks.{gone, told_of};
+ghost use Rattle.urb_worker.specs.Desks.{control_job, gone, told_of};
 ghost use mathlib.Core.List.{IsPrefix};
 ghost use Rattle.urb_worker.specs.internal.Desks.{IsWork};
 ghost use Rattle.urb_worker.specs.internal.SeenEvents.{Follows};
@@ -18,12 +18,13 @@ use crate::desk_queue::DeskQueue;
 use crate::loans::copy_moment;
 use crate::node_service::DeskService;
 use crate::responses::{down_response, response_to_read, response_to_turn};
+use crate::worker_gone::WorkerGone;
 use crate::{Finished, Job, NodeService};
 use std::alloc::Global;
 use std::marker::Model;
 use std::sync::Wait;
 use std::time::{Clock, Duration, Instant};
-use urb_client::{Desk, Request, Response};
+use urb_client::{Control, Desk, Request, Response};
 use urb_names::{NoMemory, NodeId};
 use urb_show::{HouseName, Moment, Page, ReadFault, ReadPosition, Told};
 
@@ -162,21 +163,22 @@ impl<'a, K: HouseName, R: Wait + Clock> NodeDesk<'a, K, R> {
     }
 
     // Turns the worker's result into the client's response, after the reader has learnt what was
-    // published. If there is no result, or the result is of another job or an earlier turn, the
+    // published. If the worker is gone, or the result is of another job or an earlier turn, the
     // response is the refusal `Down`.
-    fn respond(&mut self, request: &Request, came: Option<Finished<K>>) -> Response
+    fn respond(&mut self, request: &Request, came: Result<Finished<K>, WorkerGone>) -> Response
         ensures node { self.new.node ≡ self.old.node }
         ensures works { Works K.origin self.old (asked_by request.now) (said_by result) self.new }
-        // It is the refusal `Down` only if no turn came, or that of another job, or one that
-        // doesn't follow what the desk has seen.
-        ensures told { MatchOption came (said_by result ≡ gone)
+        // It is the refusal `Down` only if the worker is gone, or a turn of another job came, or one
+        // that doesn't follow what the desk has seen.
+        ensures told { MatchResult came
             (λ finished. IsJobOf self.old.node (asked_by request.now) finished.job
             → Follows self.old.past finished.ran finished.loans
-            → said_by result ≡ told_of finished.reply finished.status) }
+            → said_by result ≡ told_of finished.reply finished.status)
+            (λ witness. said_by result ≡ gone) }
     {
         match came {
-            Some(finished) => self.respond_if_asked(request, finished),
-            None => down_response(),
+            Ok(finished) => self.respond_if_asked(request, finished),
+            Err(_) => down_response(),
         }
     }
 
@@ -304,9 +306,7 @@ impl<'a, K: HouseName, R: Wait + Clock> Desk for NodeDesk<'a, K, R> {
                 self.service.in_flight.await_calm(self.rt);
                 self.work(request)
             }
-            Request::Status => self.work(request),
-            Request::Crash => self.work(request),
-            Request::Restart => self.work(request),
+            Request::Ask(_) => self.work(request),
         }
     }
 }
@@ -340,9 +340,19 @@ fn is_job_of(node: NodeId, request: &Request, job: &Job) -> bool
             && *of == *client
             && *ranked == *number
             && bytes.as_slice() == payload.as_slice(),
-        (Request::Status, Job::Status(at)) => *at == node,
-        (Request::Crash, Job::Crash(at)) => *at == node,
-        (Request::Restart, Job::Restart(at)) => *at == node,
+        (Request::Ask(control), _) => is_control_job(node, *control, job),
+        _ => false,
+    }
+}
+
+// Whether a job is what a request without fields asks at a node.
+fn is_control_job(node: NodeId, control: Control, job: &Job) -> bool
+    ensures { IsTrue result ↔ (job.now ≡ control_job node control) }
+{
+    match (control, job) {
+        (Control::Status, Job::Status(at)) => *at == node,
+        (Control::Crash, Job::Crash(at)) => *at == node,
+        (Control::Restart, Job::Restart(at)) => *at == node,
         _ => false,
     }
 }

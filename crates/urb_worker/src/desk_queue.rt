@@ -2,15 +2,16 @@
 
 ghost use Rattle.std.specs.Prelude.{◌≡◌, IfOk};
 ghost use Rattle.urb_client.specs.Requests.{asked_by};
-ghost use Rattle.urb_worker.specs.Desks.{IsJobOf};
+ghost use Rattle.urb_worker.specs.Desks.{IsJobOf, control_job};
 ghost use Rattle.urb_worker.specs.internal.Desks.{IsWork};
 
+use crate::worker_gone::{WorkerGone, after_answer, after_send};
 use crate::{Finished, Job, Ticket, TicketPlaces};
-use crossbeam_channel::{SendError, Sender};
-use std::alloc::{AllocError, Global};
+use crossbeam_channel::Sender;
+use std::alloc::Global;
 use std::marker::Model;
 use std::sync::Wait;
-use urb_client::Request;
+use urb_client::{Control, Request};
 use urb_names::{NoMemory, NodeId};
 use urb_show::HouseName;
 
@@ -93,36 +94,36 @@ impl<'a, K: HouseName> DeskQueue<'a, K> {
         }
     }
 
-    // Sends the worker what was asked, and returns the result. `None` if the worker has ended.
-    // Before that it waits for a place for the ticket.
+    // Sends the worker what was asked, and returns the result, or the witness that the worker is
+    // gone. Before that it waits for a place for the ticket.
     fn send<R: Wait>(
         &self,
         rt: &R,
         alloc: Global,
         asked: DeskJob<'_>,
-    ) -> Result<Option<Finished<K>>, NoMemory>
+    ) -> Result<Result<Finished<K>, WorkerGone>, NoMemory>
         requires { asked.node ≡ self.now }
     {
         let (to, from) = crossbeam_channel::bounded(alloc, 1)?;
         let ticket = asked.into_ticket(to);
-        self.places.take(rt);
-        let came = match self.sender.send(rt, ticket) {
-            Ok(()) => Ok(from.recv(rt).ok()),
-            Err(SendError::Disconnected(_)) => Ok(None),
-            Err(SendError::OutOfMemory(_)) => Err(NoMemory::from(AllocError)),
+        let place = self.places.take(rt);
+        let came = match after_send(self.sender.send(rt, ticket)) {
+            Ok(Ok(())) => Ok(after_answer(from.recv(rt))),
+            Ok(Err(gone)) => Ok(Err(gone)),
+            Err(refused) => Err(refused),
         };
-        self.places.give_back(rt);
+        place.give_back(rt);
         came
     }
 
-    /// Sends the worker what a request asks at the node, and returns the result. `None` if the
-    /// worker has ended. It waits for a place for the ticket, and for the result.
+    /// Sends the worker what a request asks at the node, and returns the result, or the witness that
+    /// the worker is gone. It waits for a place for the ticket, and for the result.
     pub(crate) fn ask<R: Wait>(
         &self,
         rt: &R,
         alloc: Global,
         request: &Request,
-    ) -> Result<Option<Finished<K>>, NoMemory>
+    ) -> Result<Result<Finished<K>, WorkerGone>, NoMemory>
         requires { IsWork (asked_by request.now) }
     {
         let asked = DeskJob::of(alloc, self.node, request)?;
@@ -147,8 +148,17 @@ fn job_of(alloc: Global, node: NodeId, request: &Request) -> Result<Job, NoMemor
             number: *number,
             payload: payload.share(alloc)?,
         }),
-        Request::Status => Ok(Job::Status(node)),
-        Request::Crash => Ok(Job::Crash(node)),
-        Request::Restart => Ok(Job::Restart(node)),
+        Request::Ask(control) => Ok(control_job(node, *control)),
+    }
+}
+
+// The job at a node that does what a request without fields asks.
+fn control_job(node: NodeId, control: Control) -> Job
+    ensures { result ≡ control_job node control }
+{
+    match control {
+        Control::Status => Job::Status(node),
+        Control::Crash => Job::Crash(node),
+        Control::Restart => Job::Restart(node),
     }
 }

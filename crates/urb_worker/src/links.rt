@@ -3,7 +3,8 @@
 ghost use Rattle.std.specs.Prelude.{◌≡◌, ◌-◌, slice_get, vec_len};
 
 use crate::handed::{keep, send_datagram};
-use crate::{Handed, Station};
+use crate::spares::NodeSpares;
+use crate::{Handed, HandledDatagram, Station};
 use std::alloc::Global;
 use std::net::UdpSocket;
 use std::sync::{Mutex, Wait};
@@ -26,9 +27,9 @@ pub trait Link {
         ensures of { IsOf target bytes.now result }
         ensures hands { hands self.now target bytes.now result };
 
-    /// Takes back the buffer of a datagram that its node has handled, so that a later datagram can
-    /// use it. A link that keeps no buffers drops it.
-    fn take_back(&self, _node: NodeId, _buffer: Vec<u8>) {}
+    /// Takes back the buffer of a datagram that its node has handled, so that a later datagram of
+    /// that node can use it. A link that keeps no buffers drops it.
+    fn take_back(&self, _datagram: HandledDatagram) {}
 
     /// Says that entries of a node's log were published, after the worker has answered for them. A
     /// link without a bell does nothing.
@@ -101,9 +102,9 @@ impl<'a, N: Link, R: Clock> Link for PacedLink<'a, N, R> {
         self.link.send(target, bytes)
     }
 
-    fn take_back(&self, node: NodeId, buffer: Vec<u8>) {
-        if let Some(station) = self.stations.get(usize::from(node.number()) - 1) {
-            station.spares.put(buffer);
+    fn take_back(&self, datagram: HandledDatagram) {
+        if let Some(spares) = NodeSpares::of(self.stations, datagram.node()) {
+            spares.put(datagram);
         }
     }
 

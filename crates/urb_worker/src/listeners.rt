@@ -6,9 +6,10 @@ ghost use Rattle.std.specs.Prelude.{◌≡◌, ◌<◌, ◌≤◌, IfOk, IfSome,
 use crate::acceptor::{Acceptor, Refusals, accept_clients};
 use crate::connections::Connections;
 use crate::door::Door;
+use crate::tick_timer::{Ticking, start_timer};
 use crate::{
     ArrivalQueue, ClientLimits, GroupSetting, NodeDesk, NodeService, ReaderPool, Reporter, Station,
-    Stop, TickQueues, Ticket, TicketPlaces, pass_rings, receive, timer,
+    Stop, TickQueues, Ticket, TicketPlaces, pass_rings, receive,
 };
 use crossbeam_channel::Sender;
 use std::alloc::Global;
@@ -146,18 +147,21 @@ fn start_node_threads<'s, E, K: HouseName + Send + Sync, R: Wait + Clock + Sync>
         && start_acceptor(scope, rt, &welcome, station.socket_door(), at_socket)
 }
 
-// Starts the threads of all nodes and the timer. Returns whether it could.
+// Starts the threads of all nodes and the timer. `None` if it could not.
 fn start_threads<'s, E, K: HouseName + Send + Sync, H: Reporter, R: Wait + Clock + Sync>(
     scope: &'s Scope<'s, E>,
     setting: &GroupSetting<'s, H, R>,
     room: &'s SessionRoom<K>,
     stop: &'s Stop,
     queues: &'s [Sender<Ticket<K>>],
-) -> bool
+) -> Option<Ticking>
     requires nodes { (length setting.now.stations.now ≤ length K.base)
         × (length K.base ≤ MAX_NODES) }
     requires room { (vec_len room.now.nodes ≡ length setting.now.stations.now)
         × (length queues.now ≡ length setting.now.stations.now) }
+    // The timer ticks at every node, as often as the setting says.
+    ensures ticks { IfSome result (λ it. (it.nodes ≡ length setting.now.stations.now)
+        × (it.millis ≡ setting.now.tick_millis)) }
 {
     let (rt, stations, tick_millis) = (setting.rt, setting.stations, setting.tick_millis);
     for place in 0..stations.len() {
@@ -181,13 +185,11 @@ fn start_threads<'s, E, K: HouseName + Send + Sync, H: Reporter, R: Wait + Clock
             desk: NodeDesk::new(rt, setting.alloc, node, service, room.start.copy()),
         };
         if !start_node_threads(scope, listener) {
-            return false;
+            return None;
         }
     }
     let queues = TickQueues::of(queues).unwrap();
-    scope
-        .spawn(move || timer(rt, stop, tick_millis, queues))
-        .is_ok()
+    start_timer(scope, rt, stop, tick_millis, queues)
 }
 
 // Ends the waits of all threads, once the stop is set: those for datagrams, clients and entries.
@@ -203,32 +205,37 @@ where
     }
 }
 
-// Runs the threads of all nodes until the watch ends, and then stops them.
+// Runs the threads of all nodes until the watch ends, and then stops them. `None` if they could not
+// be started.
 fn run_threads<'a, K: HouseName + Send + Sync, H: Reporter + Sync, R, W: Watch>(
     setting: &GroupSetting<'a, H, R>,
     room: &'a SessionRoom<K>,
     stop: &'a Stop,
     queues: &'a [Sender<Ticket<K>>],
     watch: &mut W,
-) -> bool
+) -> Option<Ticking>
 where
     R: Threads + Wait + Clock + Sync + Net<Listener = TcpListener, Stream = TcpStream>,
     requires nodes { (length setting.now.stations.now ≤ length K.base)
         × (length K.base ≤ MAX_NODES) }
     requires room { (vec_len room.now.nodes ≡ length setting.now.stations.now)
         × (length queues.now ≡ length setting.now.stations.now) }
+    ensures ticks { IfSome result (λ it. (it.nodes ≡ length setting.now.stations.now)
+        × (it.millis ≡ setting.now.tick_millis)) }
 {
     thread::scope(
         thread::scope_env(),
         setting.rt,
-        move |scope| -> bool
+        move |scope| -> Option<Ticking>
             requires { (length setting.now.stations.now ≤ length K.base)
                 × (length K.base ≤ MAX_NODES)
                 × (vec_len room.now.nodes ≡ length setting.now.stations.now)
                 × (length queues.now ≡ length setting.now.stations.now) }
+            ensures { IfSome result (λ it. (it.nodes ≡ length setting.entry.now.stations.now)
+                × (it.millis ≡ setting.entry.now.tick_millis)) }
         {
             let started = start_threads(scope, setting, room, stop, queues);
-            if started {
+            if started.is_some() {
                 watch.watch(setting.stations);
             }
             stop.set();
@@ -248,22 +255,25 @@ pub(crate) struct ListenerInput<K: HouseName> {
 
 /// Takes datagrams and clients at the stations, and sends ticks, until the watch ends. Then it
 /// stops the threads that it started, and waits for them. Sessions end too: each answers what it
-/// has read, and reads no more. Returns false if memory or a thread was refused.
+/// has read, and reads no more. `None` if memory or a thread was refused.
 pub(crate) fn run_listeners<K: HouseName + Send + Sync, H: Reporter + Sync, R, W: Watch>(
     setting: &GroupSetting<'_, H, R>,
     input: ListenerInput<K>,
     watch: &mut W,
-) -> bool
+) -> Option<Ticking>
 where
     R: Threads + Wait + Clock + Sync + Net<Listener = TcpListener, Stream = TcpStream>,
     requires nodes { (length setting.now.stations.now ≤ length K.base)
         × (length K.base ≤ MAX_NODES) }
     requires queues { vec_len input.queues ≡ length setting.now.stations.now }
+    // While they ran, every node had its ticks, as often as the setting says.
+    ensures ticks { IfSome result (λ it. (it.nodes ≡ length setting.now.stations.now)
+        × (it.millis ≡ setting.now.tick_millis)) }
 {
     let ListenerInput { queues, readers } = input;
     let (alloc, stations) = (setting.alloc, setting.stations);
     let Ok(Some(room)) = SessionRoom::new(alloc, readers, stations.len(), setting.limits) else {
-        return false;
+        return None;
     };
     let stop = Stop::new();
     run_threads(setting, &room, &stop, queues.as_slice(), watch)

@@ -88,6 +88,13 @@ impl<'a, K: HouseName> TickQueues<'a, K> {
         Some(TickQueues { senders })
     }
 
+    /// For how many workers these are.
+    pub(crate) fn count(&self) -> usize
+        ensures { result ≡ length self.now.senders.now }
+    {
+        self.senders.len()
+    }
+
     // The queue at this place. The places 0, 1, .. are those of nodes 1, 2, ..
     fn at(&self, place: usize) -> TickQueue<'a, K>
         requires { place < length self.now.senders.now }

@@ -1,8 +1,11 @@
 //! The timer: a tick at each node, again and again.
 
+ghost use Rattle.std.specs.Prelude.{◌≡◌, IfSome, length};
+
 use crate::{Stop, StopSeen, TickQueues};
 use std::sync::Wait;
 use std::thread;
+use std::thread::Scope;
 use std::time::{Clock, Duration};
 use urb_show::HouseName;
 
@@ -37,4 +40,37 @@ pub fn timer<'s, K: HouseName, R: Wait + Clock>(
         let _ = queues.tick_all(rt);
     }
     unreachable!()
+}
+
+/// The witness that a timer was started for the workers of nodes 1 to `nodes`, which sends each a
+/// tick every `millis` milliseconds. Only `start_timer` makes one.
+#[derive(Clone, Copy)]
+pub(crate) struct Ticking {
+    nodes: usize,
+    millis: u32,
+}
+
+/// Starts the timer of these queues' nodes on a thread of its own. `None` if no thread could be
+/// made.
+pub(crate) fn start_timer<'s, E, K: HouseName + Send + Sync, R: Wait + Clock + Sync>(
+    scope: &'s Scope<'s, E>,
+    rt: &'s R,
+    stop: &'s Stop,
+    millis: u32,
+    queues: TickQueues<'s, K>,
+) -> Option<Ticking>
+    ensures nodes { IfSome result (λ it. it.nodes ≡ length queues.entry.senders.now) }
+    ensures millis { IfSome result (λ it. it.millis ≡ millis) }
+{
+    let ticking = Ticking {
+        nodes: queues.count(),
+        millis,
+    };
+    if scope
+        .spawn(move || timer(rt, stop, millis, queues))
+        .is_err()
+    {
+        return None;
+    }
+    Some(ticking)
 }

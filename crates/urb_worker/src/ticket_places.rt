@@ -1,12 +1,17 @@
 //! Places in a worker's channel for the tickets of sessions.
 
-ghost use Rattle.std.specs.Prelude.{◌≤◌};
+ghost use Rattle.std.specs.Prelude.{◌≡◌, ◌≤◌, ◌+◌, MatchOption, min};
 ghost use Rattle.urb_worker.specs.declared.ticket_places.TheConstants.{SESSION_TICKETS};
 
-use std::sync::{Condvar, Mutex, Wait};
+use std::sync::{Condvar, Mutex, MutexGuard, Wait};
 
 /// How many tickets of sessions a worker's channel and the worker have at a time.
 pub const SESSION_TICKETS: u32 = 32;
+
+// A place that was taken. It isn't `Drop`, so whoever has it must give it back.
+struct Place {
+    taken: (),
+}
 
 // How many places are free.
 #[derive(Drop)]
@@ -16,17 +21,23 @@ struct FreePlaces {
 }
 
 impl FreePlaces {
-    // Takes a place. Returns false if none is free.
-    fn take(&mut self) -> bool {
+    // Takes a place. `None` if none is free.
+    fn take(&mut self) -> Option<Place>
+        ensures { MatchOption result ((self.old.count ≡ 0) × (self.new.count ≡ 0))
+            (λ place. self.new.count + 1 ≡ self.old.count) }
+    {
         if self.count == 0 {
-            return false;
+            return None;
         }
         self.count -= 1;
-        true
+        Some(Place { taken: () })
     }
 
     // Gives a place back.
-    fn give_back(&mut self) {
+    fn give_back(&mut self, place: Place)
+        ensures { self.new.count ≡ min (self.old.count + 1) SESSION_TICKETS }
+    {
+        let Place { taken: () } = place;
         if self.count < SESSION_TICKETS {
             self.count += 1;
         }
@@ -42,6 +53,22 @@ pub struct TicketPlaces {
     given_back: Condvar,
 }
 
+/// A place that was taken for a ticket. It isn't `Drop`: each path of the code that has it, also one
+/// on which memory is refused, must end with `give_back`, or else the code is refused.
+pub struct TakenPlace<'p> {
+    places: &'p TicketPlaces,
+    place: Place,
+}
+
+impl<'p> TakenPlace<'p> {
+    /// Gives the place back, and wakes a session that waits for one.
+    pub fn give_back<R: Wait>(self, rt: &R) {
+        let TakenPlace { places, place } = self;
+        places.free.lock(rt).give_back(place);
+        places.given_back.notify_one();
+    }
+}
+
 impl TicketPlaces {
     /// All places are free.
     pub fn new() -> TicketPlaces {
@@ -54,20 +81,20 @@ impl TicketPlaces {
     }
 
     /// Takes a place. Waits while none is free.
-    pub fn take<R: Wait>(&self, rt: &R) {
+    pub fn take<R: Wait>(&self, rt: &R) -> TakenPlace<'_> {
         let mut free = self.free.lock(rt);
         for _ in rt.forever() {
-            if free.take() {
-                break;
+            match free.take() {
+                Some(place) => {
+                    MutexGuard::unlock(free);
+                    return TakenPlace {
+                        places: self,
+                        place,
+                    };
+                }
+                None => free = self.given_back.wait(rt, free),
             }
-            free = self.given_back.wait(rt, free);
         }
-        drop(free);
-    }
-
-    /// Gives a place back, and wakes a session that waits for one.
-    pub fn give_back<R: Wait>(&self, rt: &R) {
-        self.free.lock(rt).give_back();
-        self.given_back.notify_one();
+        unreachable!()
     }
 }

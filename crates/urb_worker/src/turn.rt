@@ -3,6 +3,7 @@
 ghost use Rattle.std.specs.Prelude.{◌≡◌, ◌-◌, ◌≤◌, ◌↔◌, IfSome, IsTrue, true};
 ghost use Rattle.urb_worker.specs.Counting.{count_after};
 ghost use Rattle.urb_worker.specs.Desks.{events_until};
+ghost use Rattle.urb_worker.specs.Jobs.{node_of};
 ghost use Rattle.urb_worker.specs.Loans.{AreLoans, IsLoan};
 ghost use Rattle.urb_worker.specs.Settlings.{published_by, told_in};
 ghost use Rattle.urb_worker.specs.Stages.{is_stored};
@@ -12,10 +13,13 @@ ghost use Rattle.urb_worker.specs.Turns.{Begins, Finishes, HasBegun, Stores};
 ghost use Rattle.urb_show.specs.Pasts.{IsLedTo};
 ghost use Rattle.urb_worker.specs.WholeTurns.{misrouted};
 
-use crate::Job;
 use crate::loans::{Loan, Loans};
 use crate::settling::Settling;
-use crate::turn_stages::{Ending, Stage, finish_event, run_store, start_event};
+use crate::turn_stages::{
+    Ending, Stage, finish_event, run_store, stage_after_crash, stage_after_message,
+    stage_after_tick, stage_of_restart,
+};
+use crate::{HandledDatagram, Job};
 use std::alloc::Global;
 use std::marker::Model;
 use std::sync::Wait;
@@ -101,7 +105,23 @@ impl<K: HouseName> Turn<K> {
     {
         house.recall();
         let lent = house.mark();
-        let (stage, count) = start_event(alloc, house, &job);
+        let (stage, count) = match &job {
+            Job::Submit {
+                node,
+                client,
+                number,
+                payload,
+            } => stage_after_message(house.submit(alloc, *node, *client, *number, payload)),
+            Job::Arrive { node, bytes } => stage_after_message(house.arrive(
+                alloc,
+                *node,
+                bytes.as_slice(),
+            )),
+            Job::Tick(node) => stage_after_tick(house.tick(alloc, *node)),
+            Job::Crash(node) => stage_after_crash(*node, house.crash(*node)),
+            Job::Restart(node) => (stage_of_restart(house.state(*node)), 0),
+            Job::Status(_) => (Stage::Asking, 0),
+        };
         let loan = Loan::new(lent, house.mark());
         Turn {
             job,
@@ -307,12 +327,11 @@ impl<K: HouseName> Finished<K> {
         }
     }
 
-    // The bytes of the datagram, if the job was an arrival.
-    pub(crate) fn into_datagram(self) -> Option<Vec<u8>> {
+    /// The datagram, if the job was an arrival.
+    pub fn into_datagram(self) -> Option<HandledDatagram>
+        ensures { IfSome result (λ it. it.node ≡ node_of self.job) }
+    {
         let Finished { job, .. } = self;
-        match job {
-            Job::Arrive { bytes, .. } => Some(bytes),
-            _ => None,
-        }
+        HandledDatagram::of_job(job)
     }
 }

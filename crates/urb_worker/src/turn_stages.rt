@@ -7,7 +7,7 @@ ghost use Rattle.urb_worker.specs.Counting.{count_of};
 ghost use Rattle.urb_worker.specs.Stages.{crash_stage, is_stored, restart_stage, state_reply};
 ghost use Rattle.urb_worker.specs.Stages.{taken_stage, tick_stage};
 ghost use Rattle.urb_worker.specs.Settlings.{NothingNew, published_by};
-ghost use Rattle.urb_worker.specs.Turns.{Begins, Ends, Stores, logged};
+ghost use Rattle.urb_worker.specs.Turns.{Ends, Stores, logged};
 
 use crate::Job;
 use crate::settling::{Settling, settle_released};
@@ -40,7 +40,7 @@ pub(crate) enum Stage {
 }
 
 // The stage after a submit or an arrival.
-fn stage_after_message(answer: Result<Taken, Refusal>) -> (Stage, u8)
+pub(crate) fn stage_after_message(answer: Result<Taken, Refusal>) -> (Stage, u8)
     ensures { result ≡ (taken_stage answer, count_of answer) }
 {
     match answer {
@@ -51,7 +51,7 @@ fn stage_after_message(answer: Result<Taken, Refusal>) -> (Stage, u8)
 }
 
 // The stage after a tick.
-fn stage_after_tick(sent: Result<Outbox, Refusal>) -> (Stage, u8)
+pub(crate) fn stage_after_tick(sent: Result<Outbox, Refusal>) -> (Stage, u8)
     ensures { result ≡ (tick_stage sent, count_of sent) }
 {
     match sent {
@@ -61,7 +61,7 @@ fn stage_after_tick(sent: Result<Outbox, Refusal>) -> (Stage, u8)
 }
 
 // The stage after a crash.
-fn stage_after_crash(node: NodeId, done: Result<(), Refusal>) -> (Stage, u8)
+pub(crate) fn stage_after_crash(node: NodeId, done: Result<(), Refusal>) -> (Stage, u8)
     ensures { result ≡ (crash_stage node done, count_of done) }
 {
     match done {
@@ -72,41 +72,13 @@ fn stage_after_crash(node: NodeId, done: Result<(), Refusal>) -> (Stage, u8)
 
 // The stage after a restart of a node in this state. If the node is up, the store isn't read: a
 // fault would leave the node with a store that returns nothing more.
-fn stage_of_restart(state: Option<State>) -> Stage
+pub(crate) fn stage_of_restart(state: Option<State>) -> Stage
     ensures { result ≡ restart_stage state }
 {
     match state {
         Some(State::Down) => Stage::Retrieving,
         Some(State::Ready | State::Storing) => Stage::Answered(Reply::Refused(Refusal::NotDown)),
         None => Stage::Answered(Reply::Refused(Refusal::BadNode)),
-    }
-}
-
-// The job's event before its store.
-pub(crate) fn start_event<K: HouseName>(
-    alloc: Global,
-    house: &mut House<K>,
-    job: &Job,
-) -> (Stage, u8)
-    ensures step { Begins house.old job.now house.new result.0 result.1 }
-    ensures one { result.1 ≤ 1 }
-{
-    match job {
-        Job::Submit {
-            node,
-            client,
-            number,
-            payload,
-        } => stage_after_message(house.submit(alloc, *node, *client, *number, payload)),
-        Job::Arrive { node, bytes } => stage_after_message(house.arrive(
-            alloc,
-            *node,
-            bytes.as_slice(),
-        )),
-        Job::Tick(node) => stage_after_tick(house.tick(alloc, *node)),
-        Job::Crash(node) => stage_after_crash(*node, house.crash(*node)),
-        Job::Restart(node) => (stage_of_restart(house.state(*node)), 0),
-        Job::Status(_) => (Stage::Asking, 0),
     }
 }
 

@@ -239,7 +239,7 @@ where
     let ListenerInput { queues, readers } = listening;
     let (workers, queues) = start_workers(scope, setting, inputs, workers, queues);
     let whole = match queues {
-        Some(queues) => run_listeners(outer, ListenerInput { queues, readers }, watch),
+        Some(queues) => run_listeners(outer, ListenerInput { queues, readers }, watch).is_some(),
         None => false,
     };
     (join_workers(setting.rt, workers, stores, tallies), whole)

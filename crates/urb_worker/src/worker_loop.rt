@@ -95,18 +95,18 @@ fn report_change<K: HouseName, N: Link, H: Reporter>(
     }
 }
 
-// Answers a ticket. If nobody waits for the answer, the link gets the buffer of the datagram back.
+// Answers a ticket. If nobody waits for the answer, the link gets the buffer of the datagram back,
+// which knows its node.
 fn give_answer<K: HouseName, N: Link, R: Wait>(
     rt: &R,
     link: &N,
-    node: NodeId,
     answer: Option<Sender<Finished<K>>>,
     finished: Finished<K>,
 ) {
     if let Some(answer) = answer {
         let _ = answer.send(rt, finished);
-    } else if let Some(buffer) = finished.into_datagram() {
-        link.take_back(node, buffer);
+    } else if let Some(datagram) = finished.into_datagram() {
+        link.take_back(datagram);
     }
 }
 
@@ -209,7 +209,7 @@ fn do_ticket<
     send_reply(outlets, finished.reply(), &mut state.buffer);
     state.own.learn(setting, node, is_own, &finished);
     let has_published = matches!(finished.settling(), Settling::Told(_));
-    give_answer(rt, setting.link, node, answer, finished);
+    give_answer(rt, setting.link, answer, finished);
     if has_published {
         setting.link.ring(node);
     }

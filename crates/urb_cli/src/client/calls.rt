@@ -8,13 +8,13 @@ ghost use Rattle.urb_client.specs.MissingResponses.{HasNoResponse};
 
 use crate::client::call_fault::CallFault;
 use crate::client::node_address::NodeAddress;
+use crate::client::patient_stream::PatientStream;
 use crate::faults::Fault;
 use std::alloc::Global;
 use std::io;
 use std::io::{ErrorKind, Read, Write};
 use std::net::{Ipv4Addr, Net, TcpListener, TcpStream};
 use std::os::unix::net::UnixStream;
-use std::time::Duration;
 use urb_client::{Request, Response, encode_request, read_response};
 use urb_local::LocalStream;
 
@@ -54,13 +54,11 @@ pub(crate) fn connect<R: Net<Listener = TcpListener, Stream = TcpStream>>(
 pub(crate) fn connect_patiently<R: Net<Listener = TcpListener, Stream = TcpStream>>(
     rt: &R,
     at: NodeAddress<'_>,
-) -> Result<LocalStream, CallFault> {
-    let stream = connect(rt, at)?;
-    let limit = Duration::from_secs(PATIENCE);
-    if stream.set_read_timeout(limit).is_err() || stream.set_write_timeout(limit).is_err() {
-        return Err(CallFault::NotConnected);
+) -> Result<PatientStream, CallFault> {
+    match PatientStream::of(connect(rt, at)?) {
+        Some(stream) => Ok(stream),
+        None => Err(CallFault::NotConnected),
     }
-    Ok(stream)
 }
 
 /// Writes bytes, and flushes them.

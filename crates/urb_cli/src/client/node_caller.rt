@@ -7,12 +7,12 @@ use crate::client::call_fault::CallFault;
 use crate::client::caller::Caller;
 use crate::client::calls::{connect_patiently, exchange};
 use crate::client::node_address::NodeAddress;
+use crate::client::patient_stream::PatientStream;
 use std::alloc::Global;
 use std::net::{Net, TcpListener, TcpStream};
 use std::thread;
 use std::time::{Clock, Duration};
 use urb_client::{Request, Response};
-use urb_local::LocalStream;
 
 /// The pause between two calls, in milliseconds.
 const PAUSE_MILLIS: u64 = 500;
@@ -23,7 +23,7 @@ pub(crate) struct NodeCaller<'a, R: Clock + Net<Listener = TcpListener, Stream =
     rt: &'a R,
     alloc: Global,
     at: NodeAddress<'a>,
-    stream: Option<LocalStream>,
+    stream: Option<PatientStream>,
 }
 
 impl<'a, R: Clock + Net<Listener = TcpListener, Stream = TcpStream>> NodeCaller<'a, R> {
@@ -45,9 +45,9 @@ fn call_over<R: Net<Listener = TcpListener, Stream = TcpStream>>(
     rt: &R,
     alloc: Global,
     at: NodeAddress<'_>,
-    kept: Option<LocalStream>,
+    kept: Option<PatientStream>,
     request: &Request,
-) -> Result<(LocalStream, Response), CallFault>
+) -> Result<(PatientStream, Response), CallFault>
     requires values { IsAsked (asked_by request.now) }
     requires short { IsShort (asked_by request.now) }
 {
@@ -55,7 +55,7 @@ fn call_over<R: Net<Listener = TcpListener, Stream = TcpStream>>(
         Some(stream) => stream,
         None => connect_patiently(rt, at)?,
     };
-    let response = exchange(alloc, &mut &stream, &mut &stream, request)?;
+    let response = exchange(alloc, &mut stream.ends(), &mut stream.ends(), request)?;
     Ok((stream, response))
 }
 

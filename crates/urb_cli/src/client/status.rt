@@ -3,7 +3,8 @@
 ghost use Rattle.std.specs.Prelude.{◌≡◌, ◌<◌, ◌⊎◌, ◌==◌, if◌then◌else◌, Err, IfOk, IfErr};
 ghost use Rattle.std.specs.Prelude.{IfSome, Some, option_map};
 ghost use Rattle.std.specs.Io.KnownBytes.{Appends};
-ghost use Rattle.urb_client.specs.Requests.{Status as AskStatus, request_body};
+ghost use Rattle.urb_client.specs.Requests.{Ask, request_body};
+ghost use Rattle.urb_client.specs.declared.request.Control.TheVariants.{Status};
 ghost use Rattle.urb_client.specs.Responses.{Refused, frame, said_by};
 ghost use Rattle.urb_cli.specs.Addresses.{address_of};
 ghost use Rattle.urb_cli.specs.internal.Addresses.{address_after};
@@ -24,7 +25,7 @@ use crate::faults::Fault;
 use std::alloc::Global;
 use std::io::{Read, Write};
 use std::net::{Net, TcpListener, TcpStream};
-use urb_client::{NodeState, Request, Response};
+use urb_client::{Control, NodeState, Request, Response};
 use urb_names::NoMemory;
 
 fn word(state: NodeState) -> &'static str
@@ -106,7 +107,7 @@ pub fn status_over<R: Read, W: Write>(
 ) -> Result<Printed, Fault>
     // The frame of this question is sent, and nothing else.
     ensures sent { IfOk result (λ shown. Appends (W.contents writer.old) (W.contents writer.new)
-        (frame (request_body AskStatus))) }
+        (frame (request_body (Ask Status)))) }
     // What is shown is what the response says.
     ensures shown { IfOk result (λ shown. IfSome (R.remaining reader.old)
         (ShowsAs (status_shown (address_of at.entry)) (shown_by shown))) }
@@ -115,7 +116,7 @@ pub fn status_over<R: Read, W: Write>(
     ensures bad { result ≡ Err Fault.BadReply
         → IfSome (R.remaining reader.old) (ShowsNothing (status_shown (address_of at.entry))) }
 {
-    let response = exchange(alloc, reader, writer, &Request::Status)?;
+    let response = exchange(alloc, reader, writer, &Request::Ask(Control::Status))?;
     match render_status_response(alloc, at, &response)? {
         Some(shown) => Ok(shown),
         None => Err(Fault::BadReply),
@@ -132,7 +133,7 @@ pub fn status_at<R: Net<Listener = TcpListener, Stream = TcpStream>>(
     ensures { IfOk result (λ shown. IsShown (status_shown (address_of at.entry)) (shown_by shown)) }
 {
     let stream = connect_patiently(rt, at)?;
-    Ok(status_over(alloc, &mut &stream, &mut &stream, at)?)
+    Ok(status_over(alloc, &mut stream.ends(), &mut stream.ends(), at)?)
 }
 
 // Says on standard output that the node at this address doesn't answer, and why on standard error.

@@ -1,8 +1,10 @@
 -- How a session reads a frame in pieces, and what its parts answer.
 use Rattle.std.specs.Prelude.{◌≡◌, ℕ, ◌<◌, ◌≤◌, ◌⊎◌, List, [], length, take, Option}
-use Rattle.std.specs.Prelude.{IfSome, IsSomeAnd, Result, Ok, Err}
+use Rattle.std.specs.Prelude.{IfSome, IsSomeAnd, Result, Ok, Err, ⊤}
 use Rattle.std.specs.Io.KnownBytes.{Consumes, IsAtEnd}
 use Rattle.urb_client.specs.declared.sessions.Piece.{Piece}
+use Rattle.urb_client.specs.declared.sessions.SessionFault.{SessionFault}
+use Rattle.urb_client.specs.declared.sessions.SessionFault.TheVariants as fault
 use Rattle.urb_client.specs.declared.sessions.Piece.TheVariants.{End, Broken, Whole}
 use Rattle.urb_client.specs.declared.format.TheConstants.{LONGEST_REQUEST}
 use Rattle.urb_client.specs.Requests.{Asked}
@@ -38,3 +40,11 @@ ReadsUnder n known left = (part : List ℕ) × Consumes known left part × (leng
 -- less than a frame is read from the front of the known bytes
 abbrev pub PartRead : Option (List ℕ) → Option (List ℕ) → Type 0
 PartRead known left = IfSome known (λ bytes. IsSomeAnd left (TakesPart bytes))
+
+-- Why an answer isn't written, and the writer before and after. A write failed. Or memory was
+-- refused, and the writer is as it was.
+abbrev pub GoesUnwritten : {W : Type 0} → SessionFault → W → W → Type 0
+GoesUnwritten {W} (fault.Write why) old new = ⊤
+GoesUnwritten {W} (fault.NoMemory why) old new = new ≡ old
+GoesUnwritten {W} (fault.Read why) old new = ⊥
+GoesUnwritten {W} fault.TooMany old new = ⊥

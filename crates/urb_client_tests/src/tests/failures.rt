@@ -88,9 +88,19 @@ struct Outcome {
 }
 
 impl Outcome {
-    // Says whether the session ended with this fault.
-    fn ends(&self, fault: SessionFault) -> bool {
-        self.ended == Err(fault)
+    // Says whether the session ended because its reader failed.
+    fn ends_unread(&self) -> bool {
+        matches!(self.ended, Err(SessionFault::Read(_)))
+    }
+
+    // Says whether the session ended because its writer failed.
+    fn ends_unwritten(&self) -> bool {
+        matches!(self.ended, Err(SessionFault::Write(_)))
+    }
+
+    // Says whether the session ended because memory was refused.
+    fn ends_without_memory(&self) -> bool {
+        matches!(self.ended, Err(SessionFault::NoMemory(_)))
     }
 
     // Says whether the session went as it does without a failure.
@@ -165,7 +175,7 @@ fn session_growth(alloc: Global, number: u64) -> RunResult {
             ..SMOOTH
         },
     );
-    let told = outcome.ends(SessionFault::NoMemory) && outcome.last && outcome.whole;
+    let told = outcome.ends_without_memory() && outcome.last && outcome.whole;
     run_result(outcome.met, told, outcome.is_well())
 }
 
@@ -178,7 +188,7 @@ fn session_read(alloc: Global, number: u64) -> RunResult {
             ..SMOOTH
         },
     );
-    let told = outcome.ends(SessionFault::Read) && outcome.last && outcome.whole && outcome.flushed;
+    let told = outcome.ends_unread() && outcome.last && outcome.whole && outcome.flushed;
     run_result(outcome.met, told, outcome.is_well())
 }
 
@@ -199,7 +209,7 @@ fn session_write(alloc: Global, number: u64) -> RunResult {
             ..SMOOTH
         },
     );
-    let told = outcome.ends(SessionFault::Write) && outcome.last;
+    let told = outcome.ends_unwritten() && outcome.last;
     let reads = reads_for(number.saturating_add(1) / 2);
     run_result(
         outcome.met,
@@ -324,16 +334,32 @@ fn is_written<F: Display>(alloc: Global, fault: &F, text: &str) -> bool {
     }
 }
 
+// Says whether a session that fails on this course ends with a fault of this text.
+fn fails_with(alloc: Global, course: Course, text: &str) -> bool {
+    match run_worked_session(alloc, course).ended {
+        Ok(_) => false,
+        Err(fault) => is_written(alloc, &fault, text),
+    }
+}
+
 #[test]
 fn faults_have_their_texts(rt: HostRuntime) {
     let alloc = rt.alloc();
     let written = [
-        is_written(alloc, &SessionFault::Read, "read failed"),
-        is_written(alloc, &SessionFault::Write, "write failed"),
-        is_written(alloc, &SessionFault::NoMemory, "no memory"),
+        fails_with(alloc, Course { read: 1, ..SMOOTH }, "read failed"),
+        fails_with(alloc, Course { write: 1, ..SMOOTH }, "write failed"),
+        fails_with(
+            alloc,
+            Course {
+                growth: 1,
+                ..SMOOTH
+            },
+            "no memory",
+        ),
+        is_written(alloc, &SessionFault::TooMany, "too many frames"),
         is_written(alloc, &ResponseFault::Read, "read failed"),
         is_written(alloc, &ResponseFault::NoMemory, "no memory"),
         is_written(alloc, &ResponseFault::NoResponse, "bad reply"),
     ];
-    assert_eq!(rt; written, [true; 6]);
+    assert_eq!(rt; written, [true; 7]);
 }

@@ -45,9 +45,9 @@ fn requests_are_encoded(rt: HostRuntime) {
     let encoded = [
         is_frame_of_submit(alloc, b"\x00\x09\x01\x00\x07\x00\x00\x00\x01hi"),
         is_frame_of(alloc, read, b"\x00\x06\x02\x00\x00\x00\x01\x08"),
-        is_frame_of(alloc, Request::Status, b"\x00\x01\x03"),
-        is_frame_of(alloc, Request::Crash, b"\x00\x01\x04"),
-        is_frame_of(alloc, Request::Restart, b"\x00\x01\x05"),
+        is_frame_of(alloc, Request::Ask(Control::Status), b"\x00\x01\x03"),
+        is_frame_of(alloc, Request::Ask(Control::Crash), b"\x00\x01\x04"),
+        is_frame_of(alloc, Request::Ask(Control::Restart), b"\x00\x01\x05"),
         is_frame_of(alloc, wait, b"\x00\x08\x06\x00\x00\x01\x02\x08\x03\x04"),
     ];
     assert_eq!(rt; encoded, [true; 6]);
@@ -60,9 +60,9 @@ const REQUESTS: [(&[u8], Option<Asked<'_>>); 8] = [
         Some(Asked::Submit(7, 1, b"hi")),
     ),
     (b"\x02\x00\x00\x00\x01\x08", Some(Asked::Read(1, 8))),
-    (b"\x03", Some(Asked::Status)),
-    (b"\x04", Some(Asked::Crash)),
-    (b"\x05", Some(Asked::Restart)),
+    (b"\x03", Some(Asked::Ask(Control::Status))),
+    (b"\x04", Some(Asked::Ask(Control::Crash))),
+    (b"\x05", Some(Asked::Ask(Control::Restart))),
     (
         b"\x06\x00\x00\x01\x02\x08\x03\x04",
         Some(Asked::Wait(258, 8, 772)),

@@ -97,7 +97,7 @@ impl<A: Allocator + Copy> Desk for OneNode<A> {
             Request::Read { place, max } | Request::Wait { place, max, .. } => self.read(
                 *place, *max,
             ),
-            Request::Status => {
+            Request::Ask(Control::Status) => {
                 let logged = u32::try_from(self.log.len()).unwrap_or(u32::MAX);
                 Ok(Response::Status {
                     state: NodeState::Ready,
@@ -105,8 +105,7 @@ impl<A: Allocator + Copy> Desk for OneNode<A> {
                     logged,
                 })
             }
-            Request::Crash => Ok(Response::Done),
-            Request::Restart => Ok(Response::Done),
+            Request::Ask(Control::Crash | Control::Restart) => Ok(Response::Done),
         }
     }
 }

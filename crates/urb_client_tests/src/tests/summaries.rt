@@ -10,9 +10,7 @@ pub(super) enum Asked<'a> {
     Submit(u16, u32, &'a [u8]),
     Read(u32, u8),
     Wait(u32, u8, u16),
-    Status,
-    Crash,
-    Restart,
+    Ask(Control),
 }
 
 /// Returns what a request asks.
@@ -25,9 +23,7 @@ pub(super) fn asked_by<A: Allocator>(request: &Request<A>) -> Asked<'_> {
         } => Asked::Submit(client.number(), *number, payload.as_slice()),
         Request::Read { place, max } => Asked::Read(*place, *max),
         Request::Wait { place, max, millis } => Asked::Wait(*place, *max, *millis),
-        Request::Status => Asked::Status,
-        Request::Crash => Asked::Crash,
-        Request::Restart => Asked::Restart,
+        Request::Ask(control) => Asked::Ask(*control),
     }
 }
 

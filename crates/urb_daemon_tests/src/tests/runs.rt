@@ -58,6 +58,10 @@ impl Stable for Refusing {
         self.store.store(pos, entry)
     }
 
+    fn store_all(&mut self, pos: u32, entries: &[Record]) -> Result<(), StoreFault> {
+        self.store.store_all(pos, entries)
+    }
+
     fn retrieve(&mut self, _alloc: Global) -> Result<Vec<Record>, StoreFault> {
         Err(StoreFault::NoMemory)
     }

@@ -13,16 +13,12 @@ use Rattle.urb_group.specs.declared.node_moves.Node.{Node as Place}
 use Rattle.urb_group.specs.declared.node_moves.Node.TheVariants as place
 use Rattle.urb_group.proofs.shown.ShownWorlds.{shows-new, sound-new}
 use Rattle.urb_stable.proofs.IndexGrowth.{read_more}
+use Rattle.urb_names.proofs.Places.{one_longer}
 
 -- the places of the nodes 1 to k, which have stored nothing
 abbrev pub first_places : {A : Type 0} → Limits → ℕ → List (Place A)
 first_places size zero = []
 first_places size (suc k) = first_places size k ++ place.Ready (new_memory size (suc k)) ∷ []
-
--- one more element makes a list longer by one
-pub one_longer : {X : Type 0} (xs : List X) (y : X) → length (xs ++ y ∷ []) ≡ suc (length xs)
-one_longer [] y = refl
-one_longer (x ∷ xs) y = ap suc (one_longer xs y)
 
 length-first : (A : Type 0) (size : Limits) (n : ℕ) → length (first_places {A = A} size n) ≡ n
 length-first A size zero = refl

@@ -5,7 +5,7 @@ use Rattle.std.proofs.Common.{subst, suc, sym, ℕ, ◌++◌, ◌<◌, ◌∙◌
 use Rattle.std.specs.Prelude.{slice_get, slice_index_or}
 use Rattle.std.proofs.lemmas.List.{length-map}
 use Rattle.urb_names.specs.LabelsAndContents.{Limits}
-use Rattle.urb_names.proofs.Places.{get_some}
+use Rattle.urb_names.proofs.Places.{get_some, one_longer}
 use Rattle.urb_node.specs.Part.{opened_node}
 use Rattle.urb_node.specs.NodeViews.{NodeView, ShowsNode, no_view}
 use Rattle.urb_node.specs.NodeMemories.{Memory, ShowsReady}
@@ -14,7 +14,6 @@ use Rattle.urb_stable.specs.Fitting.{KeepsOwn, first_misfit}
 use Rattle.urb_stable.specs.Images.{image_of}
 use Rattle.urb_stable.proofs.IndexGrowth.{read_more}
 use Rattle.urb_group.proofs.moves.FittingImages.{no_misfit-fits, opened-own, opened-shows}
-use Rattle.urb_group.proofs.moves.NewPlaces.{one_longer}
 use Rattle.urb_group.proofs.shown.ReplacedElements.{read_mapped}
 use Rattle.urb_group.proofs.shown.ShownWorlds.{sound-opened}
 use Rattle.urb_group.specs.GroupCalls.{Opens}

@@ -1,6 +1,6 @@
 -- Worlds in which all nodes are ready, and how one such world goes on from another.
-use Rattle.std.proofs.Common.{List, None, Option, Some, [], ap, is_some, refl, slice_get, subst}
-use Rattle.std.proofs.Common.{suc, sym, true, zero, ℕ, ◌++◌, ◌∙◌, ◌∷◌, ◌≡◌}
+use Rattle.std.proofs.Common.{List, None, Option, Some, ap, is_some, refl, slice_get, subst}
+use Rattle.std.proofs.Common.{sym, true, ℕ, ◌∙◌, ◌≡◌}
 use Rattle.urb_group.proofs.steps.DraftedRecords.{to_sender}
 use Rattle.urb_group.proofs.steps.Growth.{begins-itself, begins-trans, certificate-begins}
 use Rattle.urb_group.proofs.steps.Growth.{pair-begins}
@@ -23,6 +23,7 @@ use Rattle.urb_node.specs.Part.{Ready}
 use Rattle.urb_stable.proofs.JoinedRecords.{pend-append}
 use Rattle.urb_stable.specs.Entries.{Entry}
 use Rattle.urb_stable.specs.Records.{pend}
+use Rattle.urb_names.proofs.Places.{get_stays}
 
 -- what every world of a run keeps
 pub record Sound (w : World) : Type 0 where
@@ -116,16 +117,10 @@ found-begins xs ys b x m e =
     (subst (λ (ps : List (Label × Content)). message_of ps x ≡ Some m) (sym (pend-append xs b.0))
     (message_of-more (pend xs) (pend b.0) x m e))
 
-get-left : {A : Type 0} (xs ys : List A) (i : ℕ) (a : A) → slice_get xs i ≡ Some a
-    → slice_get (xs ++ ys) i ≡ Some a
-get-left [] ys i a e = absurd cc
-get-left (x ∷ xs) ys zero a e = e
-get-left (x ∷ xs) ys (suc i) a e = get-left xs ys i a e
-
 get-begins : {A : Type 0} (xs ys : List A) → Begins xs ys → (i : ℕ) (a : A)
     → slice_get xs i ≡ Some a → slice_get ys i ≡ Some a
 get-begins xs ys b i a e =
-    subst (λ (zs : List _). slice_get zs i ≡ Some a) b.1 (get-left xs b.0 i a e)
+    subst (λ (zs : List _). slice_get zs i ≡ Some a) b.1 (get_stays xs b.0 i a e)
 
 module _ (v w : World) (o : Onward v w) where
   -- a truthful packet stays truthful

@@ -15,7 +15,6 @@ use Rattle.urb_group.proofs.recovery.ContinuedWorlds.{Sound, known-pair, known-s
 use Rattle.urb_group.proofs.recovery.CountedArrivals.{knows}
 use Rattle.urb_group.proofs.ticks.Membership.{IsIn, in-flat_map, in-map}
 use Rattle.urb_group.proofs.ticks.Membership.{in-split}
-use Rattle.urb_group.proofs.ticks.CyclicOrder.{not_before_itself}
 use Rattle.urb_group.specs.Rounds.{taken}
 use Rattle.urb_group.specs.World.{World, stored}
 use Rattle.urb_names.proofs.FoundPairs.{has_pair-last, own-other, own-push}
@@ -28,6 +27,7 @@ use Rattle.urb_stable.proofs.KeptRules.{PairRules, pairs-all}
 use Rattle.urb_stable.specs.Entries.{Entry}
 use Rattle.urb_stable.specs.Fitting.{Kept}
 use Rattle.urb_stable.specs.Records.{pend}
+use Rattle.urb_names.proofs.RisingPairs.{name_lt-strict}
 
 abbrev Pairs : Type 0
 Pairs = List (Label × Content)
@@ -70,7 +70,7 @@ fits-in (p ∷ ps) ys rises all =
     differs : list_all (λ later. name_lt p.0 later.0) ps ≡ true → (d : Label × Content) → IsIn d ps
         → p.0 ≡ d.0 → ⊥
     differs h d k e =
-        false≢true (sym (not_before_itself p.0)
+        false≢true (sym (name_lt-strict p.0)
         ∙ subst (λ (y : Label). name_lt p.0 y ≡ true) (sym e)
         (in-list_all (λ (later : Label × Content). name_lt p.0 later.0) d ps h k))
 

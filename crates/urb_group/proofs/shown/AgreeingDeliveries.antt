@@ -30,7 +30,8 @@ use Rattle.urb_stable.specs.Records.{pend}
 
 -- ---- one sender's deliveries
 
-filter-mapped : {A B : Type 0} (f : A → B) (test : B → Bool) (xs : List A)
+-- a filter of what a function makes keeps what it makes of those that pass
+pub filter-mapped : {A B : Type 0} (f : A → B) (test : B → Bool) (xs : List A)
     → filter test (map f xs) ≡ map f (filter (λ x. test (f x)) xs)
 filter-mapped f test [] = refl
 filter-mapped f test (x ∷ xs) = at (test (f x)) (filter-mapped f test xs)

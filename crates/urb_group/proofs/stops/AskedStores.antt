@@ -6,10 +6,10 @@ use Rattle.std.proofs.Math.Seq.{drop-length, take-append_seam}
 use Rattle.urb_stable.specs.Entries.{Entry}
 use Rattle.urb_stable.specs.declared.stable.Stable.{Ghosts}
 use Rattle.urb_stable.specs.declared.stable.StoreFault.{StoreFault}
-use Rattle.urb_group.proofs.moves.NewPlaces.{one_longer}
 use Rattle.urb_group.proofs.stops.OpenedClusters.{give-more}
 use Rattle.urb_group.specs.StoreQuestions.{Gives}
 use Rattle.urb_group.specs.StoreOpenings.{AllGive, FirstFails}
+use Rattle.urb_names.proofs.Places.{one_longer}
 
 -- the first stores gave these lists, and the others are as they were
 pub record HasAsked {S A : Type 0} (g : Ghosts S A) (stores now : List S)

@@ -125,7 +125,8 @@ holds-in group w p draft shows there =
     held : IsHeldAs group p draft
     held = held-as group p draft there
 
-down-in : (s : State) → is_down s ≡ true → (o : Option Entry) × (s ≡ Down o)
+-- a node that is down holds a doubtful record or none
+pub down-in : (s : State) → is_down s ≡ true → (o : Option Entry) × (s ≡ Down o)
 down-in Ready e = absurd (false≢true e)
 down-in (Storing entry cause) e = absurd (false≢true e)
 down-in (Down o) e = (o, refl)

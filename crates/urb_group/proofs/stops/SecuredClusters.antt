@@ -62,7 +62,7 @@ secured-beside g cluster h =
 -- ---- one store
 
 -- a node that stays is down if it was down
-still-down : (old new : Node) → Stays old new → is_down old.state ≡ true → is_down new.state ≡ true
+pub still-down : (old new : Node) → Stays old new → is_down old.state ≡ true → is_down new.state ≡ true
 still-down old new s down = at (is_down new.state) refl
   where
     at : (b : Bool) → is_down new.state ≡ b → is_down new.state ≡ true

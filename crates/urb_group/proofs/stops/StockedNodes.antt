@@ -41,7 +41,8 @@ says-more records r h =
 
 -- ---- the node's part of the world
 
-node-after : (w : World) (p : ℕ) (outcome : Reply × Node) → is_node w.size.n p ≡ true
+-- after a step of a node, the world has that node as the step left it
+pub node-after : (w : World) (p : ℕ) (outcome : Reply × Node) → is_node w.size.n p ≡ true
     → (at_node w p outcome).1.node p ≡ outcome.1
 node-after w p outcome there =
     ap (λ (o : Reply × World). o.1.node p)

@@ -111,7 +111,7 @@ module _ {S A : Type 0} (g : Ghosts S A) (Q : Clustered S → Type 0)
 -- ---- all that the stores may turn out to hold
 
 -- a node that the group has no place for has stored nothing
-no-place : (group : GroupView) (w : World) (p : ℕ) → Shows group w → view_of group p ≡ no_view
+pub no-place : (group : GroupView) (w : World) (p : ℕ) → Shows group w → view_of group p ≡ no_view
     → MayLeave (w.node p) []
 no-place group w p shows none = at ((w.node p).records) refl
   where

@@ -106,7 +106,8 @@ own_place ms i m e n p size node b =
     ∙ ap (λ (k : ℕ). Same (Accepted (name p (suc k))))
     (ap (position_or_len (is_numbered m.client m.number)) b ∙ f.1))
 
-accepted-again : (size : Limits) (images : ℕ → List Entry) → AllKept size images
+-- a repeat of a message that its node's image holds is accepted under its name
+pub accepted-again : (size : Limits) (images : ℕ → List Entry) → AllKept size images
     → (p : ℕ) (x : Label) (m : Content) → is_node size.n p ≡ true → x.sender ≡ p
     → length m.payload ≤ MAX_PAYLOAD
     → has_pair (pend (images p)) x m ≡ true

@@ -12,14 +12,10 @@ use Rattle.urb_stubborn.proofs.PairRanges.{all_pass}
 use Rattle.urb_names.specs.LabelsAndContents.{Label, Content}
 use Rattle.urb_names.specs.Names.{name_lt}
 use Rattle.urb_names.specs.CyclicOrder.{are_rising, cyclic, is_after}
-use Rattle.urb_names.proofs.RisingPairs.{name_lt-other_way, name_lt-trans}
+use Rattle.urb_names.proofs.RisingPairs.{name_lt-other_way, name_lt-strict, name_lt-trans}
 
 abbrev Pairs : Type 0
 Pairs = List (Label × Content)
-
--- no name is before itself
-pub not_before_itself : (x : Label) → name_lt x x ≡ false
-not_before_itself x = ⊎_elim (λ e. name_lt-other_way x x e) (λ e. e) (cases_Bool (name_lt x x))
 
 -- what comes after a name comes after each name before it
 all_behind : (x y : Label) (ps : Pairs) → name_lt x y ≡ true
@@ -107,7 +103,7 @@ cyclic_at front q back h =
         filter-append (λ p. name_lt q.0 p.0) front (q ∷ back)
         ∙ (ap (λ ps. ps ++ filter (λ p. name_lt q.0 p.0) (q ∷ back))
         (none_pass (λ p. name_lt q.0 p.0) front front_not)
-        ∙ (cond-false (name_lt q.0 q.0) _ _ (not_before_itself q.0)
+        ∙ (cond-false (name_lt q.0 q.0) _ _ (name_lt-strict q.0)
         ∙ all_pass (λ p. name_lt q.0 p.0) back sides.behind))
 
     last : filter (λ p. not (name_lt q.0 p.0)) (front ++ q ∷ back) ≡ front ++ q ∷ []
@@ -117,7 +113,7 @@ cyclic_at front q back h =
         (all_pass (λ p. not (name_lt q.0 p.0)) front front_not)
         ∙ ap (λ ps. front ++ ps)
         (cond-true (not (name_lt q.0 q.0)) (q ∷ filter (λ p. not (name_lt q.0 p.0)) back)
-        (filter (λ p. not (name_lt q.0 p.0)) back) (ap not (not_before_itself q.0))
+        (filter (λ p. not (name_lt q.0 p.0)) back) (ap not (name_lt-strict q.0))
         ∙ ap (λ ps. q ∷ ps) (none_pass (λ p. not (name_lt q.0 p.0)) back
         (weaker (λ p. name_lt q.0 p.0) (λ p. not (not (name_lt q.0 p.0))) back
         (λ p e. twice (name_lt q.0 p.0) e) sides.behind))))

@@ -10,11 +10,11 @@ use Rattle.std.specs.List.{AllByRecursion, list_all, list_any, prefix_len}
 use Rattle.urb_names.specs.declared.limits.TheConstants.{NAMES_PER_TICK}
 use Rattle.urb_group.proofs.ticks.PassedPairs.{Nearer, passes}
 use Rattle.urb_group.proofs.ticks.Membership.{IsIn, in-all, in-left, in-pairs, in-right}
-use Rattle.urb_group.proofs.ticks.CyclicOrder.{length-cyclic, not_before_itself}
+use Rattle.urb_group.proofs.ticks.CyclicOrder.{length-cyclic}
 use Rattle.urb_group.proofs.ticks.TickCoverage.{in-cyclic}
 use Rattle.urb_group.specs.Resends.{IsDueAmong, cursor_next, resent_over, turn_of}
 use Rattle.urb_names.proofs.OrderedPairs.{has_pair-behind, has_pair-head}
-use Rattle.urb_names.proofs.RisingPairs.{name_lt-trans}
+use Rattle.urb_names.proofs.RisingPairs.{name_lt-strict, name_lt-trans}
 use Rattle.urb_names.proofs.SameNames.{same_name-same, same_name-true}
 use Rattle.urb_names.specs.CyclicOrder.{are_rising, cyclic, is_after, resent}
 use Rattle.urb_names.specs.Names.{name_lt, same_name}
@@ -96,13 +96,13 @@ not_false false e = sym e
 differ : (x y : Label) → name_lt x y ≡ true → same_name x y ≡ false
 differ x y e =
     ⊎_elim (λ f. absurd (false≢true
-    (sym (not_before_itself x) ∙ (ap (name_lt x) (same_name-true x y f) ∙ e)))) (λ f. f)
+    (sym (name_lt-strict x) ∙ (ap (name_lt x) (same_name-true x y f) ∙ e)))) (λ f. f)
     (cases_Bool (same_name x y))
 
 differ_back : (x y : Label) → name_lt x y ≡ true → same_name y x ≡ false
 differ_back x y e =
     ⊎_elim (λ f. absurd (false≢true
-    (sym (not_before_itself x) ∙ (ap (name_lt x) (sym (same_name-true y x f)) ∙ e)))) (λ f. f)
+    (sym (name_lt-strict x) ∙ (ap (name_lt x) (sym (same_name-true y x f)) ∙ e)))) (λ f. f)
     (cases_Bool (same_name y x))
 
 -- pairs in rising order have each name once
@@ -119,7 +119,7 @@ unique (p ∷ ps) d e h i j same =
     apart : (u v : Label × Content) → p ≡ u → IsIn v ps → u.0 ≡ v.0 → ⊥
     apart u v a b s =
         false≢true
-        (sym (not_before_itself p.0) ∙ (ap (name_lt p.0) (ap (λ (w : Label × Content). w.0) a ∙ s)
+        (sym (name_lt-strict p.0) ∙ (ap (name_lt p.0) (ap (λ (w : Label × Content). w.0) a ∙ s)
         ∙ all_at (λ r. name_lt p.0 r.0) ps v parts.0 b))
 
 -- whether the pair has the name of one of these
@@ -156,7 +156,7 @@ filter-is (p ∷ ps) (q ∷ qs) h k f =
     inside : (d : Label × Content) → name_lt p.0 d.0 ≡ true → IsIn d (p ∷ ps) → IsIn d ps
     inside d l i =
         ⊎_elim (λ e. absurd (false≢true
-        (sym (not_before_itself p.0) ∙ (ap (λ (w : Label × Content). name_lt p.0 w.0) e ∙ l))))
+        (sym (name_lt-strict p.0) ∙ (ap (λ (w : Label × Content). name_lt p.0 w.0) e ∙ l))))
         (λ e. e) i
 
     here : (((d : Label × Content) → IsIn d qs → IsIn d ps) → filter (listed qs) ps ≡ qs) → p ≡ q

@@ -1,9 +1,11 @@
 -- Words of the worked examples: records, images and packets.
-use Rattle.std.specs.Prelude.{List, None, Option, Some, false, true, replicate, ℕ, ◌∷◌, [], ◌≡◌}
+use Rattle.std.specs.Prelude.{Bool, List, None, Option, Some, false, true, replicate, ℕ, ◌∷◌, []}
+use Rattle.std.specs.Prelude.{◌≡◌}
 use Rattle.std.specs.Prelude.{zero, suc, map}
 use Rattle.urb_group.specs.MemoryStores.{in_memory}
 use Rattle.urb_group.specs.World.{World, image_of, started}
 use Rattle.urb_group.specs.Scenes.{flags_of}
+use Rattle.urb_group.specs.Step.{Event, run}
 use Rattle.urb_group.specs.internal.Scripts.{Accepts, Drafts, Line, Told, message, store, submit}
 use Rattle.urb_group.specs.internal.Scripts.{◌⇒◌}
 use Rattle.urb_names.specs.CarriedPackets.{Carried}
@@ -13,6 +15,7 @@ use Rattle.urb_names.specs.Nodes.{numbers_from}
 use Rattle.urb_names.specs.declared.refusal.Rule.{Rule}
 use Rattle.urb_node.specs.NodeViews.{NodeView}
 use Rattle.urb_node.specs.Part.{Node, Ready, State}
+use Rattle.urb_node.specs.Replies.{Reply, Stored}
 use Rattle.urb_stable.specs.Entries.{Entry}
 use Rattle.urb_stable.specs.Fitting.{first_misfit}
 use Rattle.urb_stable.specs.MemoryStores.{Memory}
@@ -102,6 +105,32 @@ carried q p sender number m =
 abbrev pub flagged : ℕ → ℕ → ℕ → ℕ → ℕ → Content → Carried
 flagged flags q p sender number m =
     record (carried q p sender number m) { flags = Some (flags_of flags) }
+
+-- a packet of version two from q to p with node 1's first message, which is "a"
+abbrev pub a_packet : ℕ → ℕ → ℕ → Carried
+a_packet flags q p = flagged flags q p 1 1 (message 7 1 "a")
+
+-- one with node 1's first message, which has no payload
+abbrev pub empty_packet : ℕ → ℕ → ℕ → Carried
+empty_packet flags q p = flagged flags q p 1 1 (message 7 1 "")
+
+-- one with node 1's second message, which is "b"
+abbrev pub b_packet : ℕ → ℕ → ℕ → Carried
+b_packet flags q p = flagged flags q p 1 2 (message 7 2 "b")
+
+-- the reply to the receipt of a record of node 1's first message: whether its submit is accepted,
+-- what is sent, and how many names were released
+abbrev pub stored : Bool → List Carried → ℕ → Reply
+stored accepted sent released = Stored (record {
+  accepted = accepted;
+  name = name 1 1;
+  sent = sent;
+  released = released;
+})
+
+-- from this world on, each of these events gets the reply beside it
+abbrev pub Replies : World → List (Event × Reply) → Type 0
+Replies w rows = (run w (map (λ row. row.0) rows)).0 ≡ map (λ row. row.1) rows
 
 -- node 1 of two submits `count` messages, from this number on, and stores each
 abbrev pub stored_from : ℕ → ℕ → List (Line × Told)

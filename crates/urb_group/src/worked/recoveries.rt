@@ -5,7 +5,7 @@ ghost use Rattle.std.specs.Prelude.{[], ◌∷◌, Ok, map};
 ghost use Rattle.urb_names.specs.Names.{name, names};
 ghost use Rattle.urb_names.specs.Nodes.{numbers_from};
 ghost use Rattle.urb_stable.specs.declared.record.Record.TheVariants.{PendCert, Cert};
-ghost use Rattle.urb_group.specs.internal.Examples.{certified, flagged, limits, pending};
+ghost use Rattle.urb_group.specs.internal.Examples.{a_packet, b_packet, certified, limits, pending};
 ghost use Rattle.urb_group.specs.internal.RecoveryExamples.{ComesTo, RecoversBy, opened_group, kept_all};
 ghost use Rattle.urb_group.specs.internal.RecoveryExamples.{kept_none};
 ghost use Rattle.urb_group.specs.internal.Scripts.{arrive2, crash, fail_old, message, new_group};
@@ -17,41 +17,28 @@ pub fn after_losses()
     ensures of_two_nodes { RecoversBy (new_group 2 10)
         (submit 1 (message 7 1 "a") ∷ store 1 ∷ []) kept_none (
         Tick 1
-        ∷ Arrive 2 (Ok (flagged 0 1 2 1 1 (message 7 1 "a")))
+        ∷ Arrive 2 (Ok (a_packet 0 1 2))
         ∷ Commit 2 1 (PendCert (name 1 1) (message 7 1 "a"))
         ∷ Tick 2
-        ∷ Arrive 1 (Ok (flagged 1 2 1 1 1 (message 7 1 "a")))
+        ∷ Arrive 1 (Ok (a_packet 1 2 1))
         ∷ Commit 1 2 (Cert (name 1 1))
         ∷ Tick 1
         ∷ Tick 2
-        ∷ Arrive 1 (Ok (flagged 1 2 1 1 1 (message 7 1 "a")))
+        ∷ Arrive 1 (Ok (a_packet 1 2 1))
         ∷ []) }
     ensures above_a_gap_first { RecoversBy (new_group 2 10)
         (submit 1 (message 7 1 "a") ∷ store 1 ∷ tick 1 ∷ submit 1 (message 7 2 "b") ∷ store 1 ∷ []) kept_none (
-        Tick 1
-        ∷ Tick 1
-        ∷ Arrive 2 (Ok (flagged 0 1 2 1 2 (message 7 2 "b")))
-        ∷ Commit 2 1 (PendCert (name 1 2) (message 7 2 "b"))
-        ∷ Arrive 2 (Ok (flagged 0 1 2 1 1 (message 7 1 "a")))
-        ∷ Commit 2 2 (PendCert (name 1 1) (message 7 1 "a"))
-        ∷ Arrive 2 (Ok (flagged 0 1 2 1 2 (message 7 2 "b")))
-        ∷ Arrive 2 (Ok (flagged 0 1 2 1 1 (message 7 1 "a")))
-        ∷ Tick 2
-        ∷ Tick 2
-        ∷ Arrive 1 (Ok (flagged 1 2 1 1 1 (message 7 1 "a")))
-        ∷ Commit 1 3 (Cert (name 1 1))
-        ∷ Arrive 1 (Ok (flagged 1 2 1 1 2 (message 7 2 "b")))
-        ∷ Commit 1 4 (Cert (name 1 2))
-        ∷ Arrive 1 (Ok (flagged 1 2 1 1 1 (message 7 1 "a")))
-        ∷ Arrive 1 (Ok (flagged 1 2 1 1 2 (message 7 2 "b")))
-        ∷ Tick 1
-        ∷ Tick 1
-        ∷ Tick 2
-        ∷ Tick 2
-        ∷ Arrive 1 (Ok (flagged 1 2 1 1 1 (message 7 1 "a")))
-        ∷ Arrive 1 (Ok (flagged 1 2 1 1 2 (message 7 2 "b")))
-        ∷ Arrive 1 (Ok (flagged 1 2 1 1 1 (message 7 1 "a")))
-        ∷ Arrive 1 (Ok (flagged 1 2 1 1 2 (message 7 2 "b")))
+        Tick 1 ∷ Tick 1
+        ∷ Arrive 2 (Ok (b_packet 0 1 2)) ∷ Commit 2 1 (PendCert (name 1 2) (message 7 2 "b"))
+        ∷ Arrive 2 (Ok (a_packet 0 1 2)) ∷ Commit 2 2 (PendCert (name 1 1) (message 7 1 "a"))
+        ∷ Arrive 2 (Ok (b_packet 0 1 2)) ∷ Arrive 2 (Ok (a_packet 0 1 2))
+        ∷ Tick 2 ∷ Tick 2
+        ∷ Arrive 1 (Ok (a_packet 1 2 1)) ∷ Commit 1 3 (Cert (name 1 1))
+        ∷ Arrive 1 (Ok (b_packet 1 2 1)) ∷ Commit 1 4 (Cert (name 1 2))
+        ∷ Arrive 1 (Ok (a_packet 1 2 1)) ∷ Arrive 1 (Ok (b_packet 1 2 1))
+        ∷ Tick 1 ∷ Tick 1 ∷ Tick 2 ∷ Tick 2
+        ∷ Arrive 1 (Ok (a_packet 1 2 1)) ∷ Arrive 1 (Ok (b_packet 1 2 1))
+        ∷ Arrive 1 (Ok (a_packet 1 2 1)) ∷ Arrive 1 (Ok (b_packet 1 2 1))
         ∷ []) }
     ensures of_three_nodes { ComesTo (new_group 3 10)
         (submit 1 (message 7 1 "a") ∷ store 1 ∷ submit 1 (message 7 2 "b") ∷ store 1 ∷ submit 3 (message 8 1 "c") ∷ store 3 ∷ []) kept_none

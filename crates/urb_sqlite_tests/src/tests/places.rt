@@ -1,7 +1,7 @@
 //! The place of a journal. It holds files, a connection over them, or the journal itself, and lends
 //! them from step to step.
 
-use super::records::{Kept, Load, are_kept, bytes_of, record_of};
+use super::records::{Kept, Load, are_kept, bytes_of, record_of, records_of};
 use sqlite::{Connection, FileStore, Files, Options, params};
 use sqlite_disk::{Crash, Disk, Fuse, Memory};
 use std::alloc::Global;
@@ -177,6 +177,15 @@ impl<D: Disk + Drop> Place<D> {
         let record = record_of(self.alloc, row)?;
         let answer = journal.store(at, &record);
         drop(record);
+        Some(answer)
+    }
+
+    /// The answer of the journal to storing the rows' records together, the first at this position.
+    pub fn store_all(&mut self, at: u32, rows: &[Kept]) -> Option<Result<(), StoreFault>> {
+        let journal = self.journal.as_mut()?;
+        let records = records_of(self.alloc, rows)?;
+        let answer = journal.store_all(at, &records);
+        drop(records);
         Some(answer)
     }
 

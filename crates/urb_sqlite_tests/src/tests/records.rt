@@ -60,6 +60,15 @@ pub fn record_of(alloc: Global, (form, seq, load): Kept) -> Option<Record> {
     }
 }
 
+/// The records that the rows describe.
+pub fn records_of(alloc: Global, rows: &[Kept]) -> Option<Vec<Record>> {
+    let mut records = Vec::new(alloc);
+    for row in rows {
+        records.push(record_of(alloc, *row)?).ok()?;
+    }
+    Some(records)
+}
+
 // Whether the record is that of the row.
 fn is_kept(alloc: Global, record: &Record, row: Kept) -> bool {
     match record_of(alloc, row) {

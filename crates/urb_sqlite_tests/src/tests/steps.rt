@@ -1,5 +1,6 @@
 //! What a test does with the journal at a place, step by step, and what each step should answer.
 
+use super::batches::TOGETHER;
 use super::changes::{BAD, GOOD, OVER_BOTH};
 use super::places::{Place, make_fused_place};
 use super::records::{Form, Kept, Load};
@@ -19,6 +20,8 @@ pub enum Step {
     Leave,
     /// The record is stored at this position, or refused.
     Store(u32, Kept, Result<(), StoreFault>),
+    /// The records are stored together, the first at this position, or refused.
+    StoreAll(u32, &'static [Kept], Result<(), StoreFault>),
     /// The journal returns these records, and then has no doubtful record.
     Holds(&'static [Kept]),
     /// The next position, and whether a record is in doubt.
@@ -74,6 +77,7 @@ fn is_right<D: Disk + Drop>(place: &mut Place<D>, step: Step) -> bool {
             true
         }
         Step::Store(at, row, wanted) => place.store(at, row) == Some(wanted),
+        Step::StoreAll(at, rows, wanted) => place.store_all(at, rows) == Some(wanted),
         Step::Holds(rows) => place.holds(rows),
         Step::Stands(next, is_doubtful) => place.stand() == Some((next, is_doubtful)),
         Step::Sql(sql, count) => place.is_done(sql, count),
@@ -122,7 +126,9 @@ fn play_case(alloc: Global, (_, start, sql, steps): &Case) -> Option<usize> {
 
 #[test]
 fn each_step_is_answered_as_it_is_to(rt: HostRuntime) -> Result<(), Fail> {
-    let tables: [&[Case]; 6] = [&STORES, &BAD, &GOOD, &OVER_BOTH, &OLD_FILES, &OTHERS];
+    let tables: [&[Case]; 7] = [
+        &STORES, &TOGETHER, &BAD, &GOOD, &OVER_BOTH, &OLD_FILES, &OTHERS,
+    ];
     for table in tables {
         for case in table {
             if let Some(step) = play_case(rt.alloc(), case) {

@@ -1,6 +1,6 @@
 -- A store in memory after a call, as its code computes it.
 use Rattle.std.specs.Prelude.{◌≡◌, ◌⊎◌, ◌<◌, ◌≤◌, ◌-◌, ◌^◌, false, [], ◌∷◌, ◌++◌, None, Some, Result}
-use Rattle.std.specs.Prelude.{Ok, Err}
+use Rattle.std.specs.Prelude.{Ok, Err, List, length}
 use Rattle.std.specs.Option.{OnSome}
 use Rattle.urb_stable.specs.Entries.{Entry}
 use Rattle.urb_stable.specs.MemoryStores.{Memory, after_failure, with_doubt, without_memory}
@@ -25,6 +25,24 @@ pub record StoresInMemory (old : Memory) (entry : Entry) (result : Result (Unit 
       → ((result ≡ Err fault.Device) × (new ≡ after_failure (Some entry) old))
       ⊎ ((result ≡ Err fault.NoMemory) × (new ≡ without_memory old))
   pub uncounted : OnSome old.armed (2 ^ 64 - 1 ≤ old.failures
+      → (result ≡ Err fault.NoMemory) × (new ≡ without_memory old))
+
+-- the store after it kept these records
+abbrev pub with_records : List Entry → Memory → Memory
+with_records entries m = record m { certain = m.certain ++ entries }
+
+-- What a store does with several records in place: nothing if there are none. Else first if it isn't
+-- armed, then if it is armed: it keeps none of them. If no further failure can be counted, an armed
+-- store returns NoMemory.
+pub record StoresAllInMemory (old : Memory) (entries : List Entry)
+    (result : Result (Unit {0}) StoreFault) (new : Memory) : Type 0 where
+  pub nothing : entries ≡ [] → (result ≡ Ok tt) × (new ≡ old)
+  pub unarmed : 0 < length entries → old.armed ≡ None
+      → ((result ≡ Ok tt) × (new ≡ with_records entries old))
+      ⊎ ((result ≡ Err fault.NoMemory) × (new ≡ without_memory old))
+  pub keeps_none : 0 < length entries → OnSome old.armed (old.failures < 2 ^ 64 - 1
+      → (result ≡ Err fault.Device) × (new ≡ after_failure None old))
+  pub uncounted : 0 < length entries → OnSome old.armed (2 ^ 64 - 1 ≤ old.failures
       → (result ≡ Err fault.NoMemory) × (new ≡ without_memory old))
 
 -- the store after a retrieve

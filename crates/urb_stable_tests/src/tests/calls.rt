@@ -1,5 +1,6 @@
 //! Calls on a store in memory, with their expected answers.
 
+use super::batches::{keep_ahead, store_copies};
 use std::alloc::Allocator;
 use urb_names::{Message, NodeId};
 use urb_stable::*;
@@ -13,6 +14,10 @@ pub(super) enum Call {
     Store(u32, Result<(), StoreFault>),
     /// Keeps a draft of the record there.
     Keep(u32, Result<(), StoreFault>),
+    /// Stores so many copies of the record together, the first at a position.
+    StoreAll(u32, usize, Result<(), StoreFault>),
+    /// Stores so many copies ahead of their drafts, the first there, and then claims each of them.
+    Ahead(u32, usize, Result<(), StoreFault>),
     /// The next position.
     Next(u32),
     /// Whether a record is in doubt.
@@ -63,7 +68,7 @@ pub(super) fn given_back<A: Allocator + Copy>(
 }
 
 // Whether a receipt belongs to this node, position and record.
-fn is_received<A: Allocator + Copy>(
+pub(super) fn is_received<A: Allocator + Copy>(
     receipt: Receipt<A>,
     (node, pos): (NodeId, u32),
     record: &Record<Message<A>>,
@@ -120,6 +125,12 @@ fn is_right<A: Allocator + Copy>(
         }
         Call::Store(pos, answer) => store.store(pos, record) == answer,
         Call::Keep(pos, answer) => keep(store, alloc, record, pos) == Some(answer),
+        Call::StoreAll(pos, count, answer) => {
+            store_copies(store, alloc, record, pos, count) == Some(answer)
+        }
+        Call::Ahead(pos, count, answer) => {
+            keep_ahead(store, alloc, record, pos, count) == Some(answer)
+        }
         Call::Next(pos) => store.next() == pos,
         Call::Doubtful(is_doubtful) => store.doubtful() == is_doubtful,
         Call::Retrieve(count) => given_back(store, alloc, record) == Given::Copies(count),

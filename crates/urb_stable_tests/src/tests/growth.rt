@@ -1,5 +1,6 @@
 //! Refuses each allocation in turn: of a store, and of the index and the images that judge records.
 
+use super::batches::store_copies;
 use super::calls::{Call, Given, given_back, is_answered, keep};
 use super::fitting::images;
 use super::index::{LETTERS, TWICE};
@@ -13,6 +14,7 @@ use urb_stable::*;
 #[derive(Clone, Copy)]
 enum Taker {
     Store,
+    Together,
     Index,
     Images,
 }
@@ -70,6 +72,33 @@ fn is_late<A: Allocator + Copy>(heap: A, calm: A, record: &Record<Message<A>>) -
     Some(is_kept_late? || is_given_late?)
 }
 
+// Keeps three records of a new store together. If an allocation is refused, none of them is left,
+// and they are kept on the next try. Returns whether it was refused, or `None` if that isn't so.
+fn are_late<A: Allocator + Copy>(heap: A, calm: A, record: &Record<Message<A>>) -> Option<bool> {
+    let mut store = MemStable::new(heap);
+    let is_refused = match store_copies(&mut store, calm, record, 1, 3) {
+        Some(Err(StoreFault::NoMemory)) => {
+            let calls = [
+                Call::Doubtful(true),
+                Call::Next(1),
+                Call::Retrieve(0),
+                Call::StoreAll(1, 3, Ok(())),
+            ];
+            is_answered(&mut store, calm, record, &calls).then_some(true)
+        }
+        Some(Ok(())) => Some(false),
+        _ => None,
+    };
+    let are_kept = is_answered(
+        &mut store,
+        calm,
+        record,
+        &[Call::Next(4), Call::Retrieve(3)],
+    );
+    drop(store);
+    if are_kept { is_refused } else { None }
+}
+
 // Whether one of these calls is refused memory from this heap; `None` if anything else happens.
 fn is_refused<A: Allocator + Copy>(heap: A, calm: A, taker: Taker) -> Option<bool> {
     match taker {
@@ -78,6 +107,12 @@ fn is_refused<A: Allocator + Copy>(heap: A, calm: A, taker: Taker) -> Option<boo
             let is_late = is_late(heap, calm, &record);
             drop(record);
             is_late
+        }
+        Taker::Together => {
+            let record = record(calm, Form::Pend(1, 1), b'm')?;
+            let are_late = are_late(heap, calm, &record);
+            drop(record);
+            are_late
         }
         Taker::Index => {
             let image = image(calm, &TWICE, LETTERS)?;
@@ -123,6 +158,11 @@ fn growths(alloc: Global, taker: Taker) -> u64 {
 #[test]
 fn each_growth_refused_is_want_of_memory(rt: HostRuntime) {
     assert!(rt; 1 < growths(rt.alloc(), Taker::Store));
+}
+
+#[test]
+fn each_growth_refused_keeps_none_of_several(rt: HostRuntime) {
+    assert!(rt; 1 < growths(rt.alloc(), Taker::Together));
 }
 
 #[test]

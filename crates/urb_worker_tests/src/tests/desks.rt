@@ -74,8 +74,8 @@ fn is_answered<K: HouseName, R: Wait + Clock>(
     let mut desk = NodeDesk::new(rt, alloc, node, service, position);
     let mut input = sent;
     let mut output = Vec::new(alloc);
-    let ended = session(alloc, &mut input, &mut output, &mut desk);
-    ended == Ok(Ended::BadFrame) && output.as_slice() == answered
+    let end = session(alloc, &mut input, &mut output, &mut desk);
+    end == Ok(Ended::BadFrame) && output.as_slice() == answered
 }
 
 // One worker, and a session at its node's desk. Then a session there after the worker has ended.

@@ -15,7 +15,7 @@ use std::test::Fail;
 use std::thread;
 use std::thread::Threads;
 use std::time::Clock;
-use urb_client::{Desk, Request, Response};
+use urb_client::{Control, Desk, Request, Response};
 use urb_group::MemStable;
 use urb_names::NodeId;
 use urb_show::{House, HouseName, LogReader, Opened};
@@ -82,8 +82,14 @@ fn are_told<K: HouseName, R: Wait + Clock>(
     let (hall, position) = open_hall(alloc, reader)?;
     let service = service_of(line, &hall);
     let mut desk = NodeDesk::new(rt, alloc, node, service, position);
-    let first = matches!(desk.answer(&Request::Status), Ok(Response::Status { .. }));
-    let second = matches!(desk.answer(&Request::Status), Ok(Response::Status { .. }));
+    let first = matches!(
+        desk.answer(&Request::Ask(Control::Status)),
+        Ok(Response::Status { .. })
+    );
+    let second = matches!(
+        desk.answer(&Request::Ask(Control::Status)),
+        Ok(Response::Status { .. })
+    );
     Some((first, second))
 }
 

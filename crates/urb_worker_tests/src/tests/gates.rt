@@ -110,6 +110,11 @@ impl<'a, R: Clock> Stable for Slow<'a, R> {
         self.store.store(pos, entry)
     }
 
+    fn store_all(&mut self, pos: u32, entries: &[Record]) -> Result<(), StoreFault> {
+        hold(self.rt, self.signs);
+        self.store.store_all(pos, entries)
+    }
+
     fn retrieve(&mut self, alloc: Global) -> Result<Vec<Record>, StoreFault> {
         self.store.retrieve(alloc)
     }

@@ -77,6 +77,10 @@ impl Stable for Strange {
         self.store.store(pos, entry)
     }
 
+    fn store_all(&mut self, pos: u32, entries: &[Record]) -> Result<(), StoreFault> {
+        self.store.store_all(pos, entries)
+    }
+
     fn retrieve(&mut self, alloc: Global) -> Result<Vec<Record>, StoreFault> {
         match self.answer {
             Answer::Device if self.failures < u32::MAX => {
@@ -122,8 +126,8 @@ fn is_answered<K: HouseName, R: Wait + Clock>(
     let mut desk = NodeDesk::new(rt, alloc, node, service, position);
     let mut input = sent;
     let mut output = Vec::new(alloc);
-    let ended = session(alloc, &mut input, &mut output, &mut desk);
-    ended == Ok(Ended::BadFrame) && output.as_slice() == answered
+    let end = session(alloc, &mut input, &mut output, &mut desk);
+    end == Ok(Ended::BadFrame) && output.as_slice() == answered
 }
 
 // The same with the node's worker over this store.

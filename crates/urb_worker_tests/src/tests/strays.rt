@@ -13,7 +13,7 @@ use std::test::Fail;
 use std::thread;
 use std::thread::Threads;
 use std::time::Clock;
-use urb_client::{Desk, Request, Response};
+use urb_client::{Control, Desk, Request, Response};
 use urb_names::{ClientId, NodeId, Payload};
 use urb_show::{HouseName, LogReader, Opened};
 use urb_worker::{Finished, Job, NodeDesk, Ticket};
@@ -112,9 +112,9 @@ fn are_refused<K: HouseName, R: Wait + Clock>(
     };
     Some(
         is_refused(&mut desk, &submit, refusal)
-            && is_refused(&mut desk, &Request::Status, refusal)
-            && is_refused(&mut desk, &Request::Crash, refusal)
-            && is_refused(&mut desk, &Request::Restart, refusal),
+            && is_refused(&mut desk, &Request::Ask(Control::Status), refusal)
+            && is_refused(&mut desk, &Request::Ask(Control::Crash), refusal)
+            && is_refused(&mut desk, &Request::Ask(Control::Restart), refusal),
     )
 }
 

@@ -2,9 +2,10 @@ use Rattle.std.proofs.Common.{[], ap, arith, subst, sym, ◌++◌, ◌∙◌, �
 use Rattle.sqlite.specs.Files.{file_state}
 use Rattle.urb_cluster_stop.specs.internal.ReopenedStores.{AreReopened}
 use Rattle.urb_sqlite.specs.ReopenedJournals.{IsReopened}
-use Rattle.urb_cluster_stop.proofs.JournalsReopened.{append-none, moved, none_left, one_more_length}
+use Rattle.urb_cluster_stop.proofs.JournalsReopened.{append-none, moved, none_left}
 use Rattle.urb_cluster_stop.proofs.JournalsReopened.{one_more_reopened}
 use Rattle.urb_cluster_stop.proofs.cluster_stop.reopen_journals.Goals as goal
+use Rattle.urb_names.proofs.Places.{one_longer}
 
 pub loop-journal-preserved : goal.loop-journal-preserved
 loop-journal-preserved g c =
@@ -12,7 +13,7 @@ loop-journal-preserved g c =
     let is : IsReopened (file_state c.in-Some.journal.conn)
     (file_state c.in_ok-stop_and_open.field-0.conn) =
     c.in_ok-stop_and_open.ensures in
-    let more = one_more_length yielded c.in-Some.journal in
+    let more = one_longer yielded c.in-Some.journal in
     record {
       all =
           c.loop-journal.invariant.all ∙ (ap (λ left. yielded ++ left) c.in-Some.ensures.steps.0

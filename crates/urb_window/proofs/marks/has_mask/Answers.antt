@@ -1,6 +1,6 @@
 use Rattle.std.proofs.Common.{sym, ap, ◌∙◌, is_some}
-use Rattle.urb_window.proofs.NewMarks.{mapped_some}
 use Rattle.urb_window.proofs.marks.has_mask.Goals as goal
+use Rattle.urb_names.proofs.TruthValues.{mapped_some}
 
 pub returns : goal.returns
 returns g c =

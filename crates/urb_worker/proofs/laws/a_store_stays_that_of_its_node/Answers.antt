@@ -1,12 +1,12 @@
 use Rattle.std.proofs.Common.{subst, suc, sym}
 use Rattle.urb_group.specs.StoreContents.{IsLasting, IsStoreOf}
-use Rattle.urb_show.proofs.PastEvents.{after_none}
 use Rattle.urb_worker.proofs.OtherNodes.{rested-leaves, rested-store}
 use Rattle.urb_worker.proofs.laws.a_store_stays_that_of_its_node.Goals as goal
+use Rattle.urb_group.proofs.recovery.EventPlans.{after-none}
 
 pub returns-clause-opened : goal.returns-clause-opened
 returns-clause-opened g c cluster i store secured got =
-    let same = sym (after_none secured.stocked.world) in
+    let same = sym (after-none secured.stocked.world) in
     record {
       contents =
           subst (λ v. IsStoreOf g.S.Stable (v.node (suc i)) store) same

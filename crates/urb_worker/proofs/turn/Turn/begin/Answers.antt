@@ -1,8 +1,19 @@
-use Rattle.urb_worker.proofs.EventCounts.{marked_begin_counts}
+use Rattle.std.proofs.Common.{rules}
+use Rattle.urb_worker.specs.Turns.{Begins}
+use Rattle.urb_worker.proofs.EventCounts.{begins_few}
+use Rattle.urb_worker.proofs.TurnLoans.{is_loan}
+use Rattle.urb_worker.proofs.TurnSteps.{just_begun}
 use Rattle.urb_worker.proofs.turn.Turn.begin.Goals as goal
 
-pub returns-clause-counted : goal.returns-clause-counted
-returns-clause-counted g c =
-    marked_begin_counts c.args.house.now c.mark-lent.new.self c.start_event-stage.new.house
-    c.mark.new.self c.args.job c.start_event-stage.result.0 c.start_event-stage.result.1
-    c.mark-lent.ensures.same c.mark.ensures.same c.start_event-stage.ensures.step
+pub invariant_of-result : goal.invariant_of-result
+invariant_of-result g c =
+    let begins : Begins c.args.house.now c.args.job c.match-job.house c.match-job.stage.0
+    c.match-job.stage.1 = search rules in (
+      begins_few c.args.house.now c.args.job c.match-job.house c.match-job.stage.0
+          c.match-job.stage.1 begins,
+      just_begun g.K.HouseName.origin c.args.house.now c.match-job.house c.args.job
+          c.match-job.stage.0 c.match-job.stage.1 c.new-loan.result c.recall.ensures.sound begins
+          c.recall.ensures.past
+          (is_loan c.mark-lent.result c.mark.result c.args.house.now c.match-job.house
+          c.new-loan.result c.mark-lent.ensures.moment c.mark.ensures.moment c.new-loan.ensures),
+    )

@@ -1,0 +1,39 @@
+-- Records that a store keeps together: all of them or none.
+use Rattle.std.specs.Prelude.{◌≡◌, ◌⊎◌, ℕ, ◌==◌, ◌||◌, ◌+◌, ◌++◌, Bool, true, false, not, nat_lt}
+use Rattle.std.specs.Prelude.{List, length, Option, None, Result, IfErr, OnOk, OnErr}
+use Rattle.urb_stable.specs.Entries.{Entry}
+use Rattle.urb_stable.specs.StableStorage.{IsContents, is_place}
+use Rattle.urb_stable.specs.declared.stable.StoreFault.{StoreFault}
+
+-- Whether these records, the first at this position, are out of place: there is a doubtful record,
+-- or the position isn't the next one. Or the list would get longer than its greatest length,
+-- 4,294,967,294 records.
+abbrev pub is_misplaced : Bool → ℕ → ℕ → List Entry → Bool
+is_misplaced doubtful next pos entries =
+    doubtful || (not (pos == next) || nat_lt 4294967295 (next + length entries))
+
+-- What storing records together does to the certain ones (`old` before it, `new` after it). After
+-- Ok these records follow them, in order. After a fault they are as before.
+pub record AreAppended (old new entries : List Entry) (result : Result (Unit {0}) StoreFault)
+    : Type 0 where
+  pub stored : OnOk result (new ≡ old ++ entries)
+  pub failed : OnErr result (new ≡ old)
+
+-- What storing records together leaves in doubt. After Ok nothing is in doubt. After a fault other
+-- than Place a retrieve must come first, but no record is in doubt.
+pub record LeavesNoRecord (is_doubtful : Bool) (left : Option Entry)
+    (result : Result (Unit {0}) StoreFault) : Type 0 where
+  pub clear : OnOk result ((is_doubtful ≡ false) × (left ≡ None))
+  pub doubtful : IfErr result (λ e. is_place e ≡ false → is_doubtful ≡ true)
+  pub none : IfErr result (λ e. is_place e ≡ false → left ≡ None)
+
+-- What storing this many records does to the next position (`old` before it, `new` after it). After
+-- Ok it moves by their number. After a fault it is as before.
+pub record MovesPlace (old new count : ℕ) (result : Result (Unit {0}) StoreFault) : Type 0 where
+  pub stored : OnOk result (new ≡ old + count)
+  pub failed : OnErr result (new ≡ old)
+
+-- what storage may turn out to hold, or its certain list followed by all of these records
+abbrev pub IsContentsOrAll : List Entry → List Entry → Option Entry → List Entry → Type 0
+IsContentsOrAll entries certain doubt records =
+    IsContents certain doubt records ⊎ (records ≡ certain ++ entries)
