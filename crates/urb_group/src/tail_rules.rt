@@ -35,25 +35,11 @@ impl<A: Allocator + Copy> Node<A> {
     }
 }
 
-// Counts the node's own messages that are this client's. It looks for the client's last one, from
-// the node's last message back.
-fn count_client<A: Allocator + Copy>(current: &Node<A>, node: NodeId, client: ClientId) -> u32
-    requires { (memory_in current.now).node ≡ node }
+// Counts the node's own messages that are this client's.
+fn count_client<A: Allocator + Copy>(current: &Node<A>, client: ClientId) -> u32
     ensures { CountsClient current.now client result }
 {
-    let own = current.own_len();
-    for back in 0..own {
-        let name = Name {
-            sender: node,
-            seq: own - back,
-        };
-        if let Some(message) = current.message(name) {
-            if message.client() == client {
-                return message.number();
-            }
-        }
-    }
-    0
+    current.client_next(client) - 1
 }
 
 // Returns the message that the node would have under a name.
@@ -141,7 +127,7 @@ fn is_next<A: Allocator + Copy>(
         return false;
     }
     add_up(
-        count_client(current, node, message.client()),
+        count_client(current, message.client()),
         of_client,
         message.number() - 1,
     )

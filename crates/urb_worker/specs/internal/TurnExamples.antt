@@ -27,8 +27,6 @@ use Rattle.urb_worker.specs.declared.job.Job.{Job}
 use Rattle.urb_node.specs.NodeViews.{no_view}
 use Rattle.urb_node.specs.Part.{Storing}
 use Rattle.urb_group.specs.declared.state.State.TheVariants as state
-use Rattle.urb_client.specs.Requests.{Ask, Asked}
-use Rattle.urb_client.specs.declared.request.Control.TheVariants as control
 
 -- the ghost values of a store in memory
 abbrev pub memory : Ghosts Memory (Unit {0})
@@ -161,15 +159,3 @@ stored_four = record {
     acks = (name 1 1, 1) ∷ [];
   } ∷ [];
 }
-
--- the request for a node's status
-abbrev pub IsStatus : Asked
-IsStatus = Ask control.Status
-
--- the request to crash a node
-abbrev pub IsCrash : Asked
-IsCrash = Ask control.Crash
-
--- the request to restart a node
-abbrev pub IsRestart : Asked
-IsRestart = Ask control.Restart

@@ -2,7 +2,7 @@
 //!
 //! Each of the rows that end in ⊥ breaks one part of what a desk promises.
 ghost use Rattle.std.specs.Prelude.{[], ◌∷◌, ◌≡◌, None, Some, false, true};
-ghost use Rattle.urb_client.specs.Requests.{Read, Wait};
+ghost use Rattle.urb_client.specs.Requests.{Crash as IsCrash, Read, Status as IsStatus, Wait};
 ghost use Rattle.urb_client.specs.Responses.{Done as IsDone, Refused};
 ghost use Rattle.urb_group.specs.Step.{Tick};
 ghost use Rattle.urb_group.specs.internal.Scripts.{message};
@@ -14,7 +14,6 @@ ghost use Rattle.urb_worker.specs.Desks.{AnswersAt, Looks, Reads, RefusedAt, See
 ghost use Rattle.urb_worker.specs.Desks.{events_until, gone, part_of};
 ghost use Rattle.urb_worker.specs.internal.TurnExamples.{at_the_opening, client_desk, desk_of};
 ghost use Rattle.urb_worker.specs.internal.TurnExamples.{later_desk, new_desk};
-ghost use Rattle.urb_worker.specs.internal.TurnExamples.{IsCrash, IsStatus};
 
 /// A read takes the lists of one moment, behind all that the desk had seen.
 pub fn looks_at_lists()

@@ -2,7 +2,8 @@
 //!
 //! Each of the rows that end in ⊥ breaks one part of what a response says.
 ghost use Rattle.std.specs.Prelude.{[], ◌∷◌};
-ghost use Rattle.urb_client.specs.Requests.{Submit};
+ghost use Rattle.urb_client.specs.Requests.{Crash as IsCrash, Restart as IsRestart, Submit};
+ghost use Rattle.urb_client.specs.Requests.{Status as IsStatus};
 ghost use Rattle.urb_client.specs.Responses.{Accepted, Done as IsDone, Refused, Status};
 ghost use Rattle.urb_client.specs.declared.response.NodeState.TheVariants as told;
 ghost use Rattle.urb_group.specs.Step.{Crash, Tick};
@@ -10,7 +11,6 @@ ghost use Rattle.urb_group.specs.internal.Scripts.{message};
 ghost use Rattle.urb_show.specs.internal.ReaderExamples.{new_four};
 ghost use Rattle.urb_worker.specs.Desks.{HasAccepted, HasCrashed, HasRestarted, Tells, WasSo};
 ghost use Rattle.urb_worker.specs.internal.TurnExamples.{stored_four};
-ghost use Rattle.urb_worker.specs.internal.TurnExamples.{IsCrash, IsRestart, IsStatus};
 
 /// A message that was accepted is stored, at a place behind all that had been seen.
 pub fn accepted_messages()

@@ -1,6 +1,7 @@
 //! Worked examples of jobs, of the stages of their turns, of replies, and of changes of nodes.
 ghost use Rattle.std.specs.Prelude.{[], ◌∷◌, ◌≡◌, Err, None, Ok, Some, false, true, ℕ};
-ghost use Rattle.urb_client.specs.Requests.{Submit};
+ghost use Rattle.urb_client.specs.Requests.{Crash as IsCrash, Restart as IsRestart, Submit};
+ghost use Rattle.urb_client.specs.Requests.{Status as IsStatus};
 ghost use Rattle.urb_client.specs.Responses.{Accepted, Done as IsDone, Refused};
 ghost use Rattle.urb_client.specs.declared.response.NodeState.TheVariants as told;
 ghost use Rattle.urb_names.specs.Names.{name};
@@ -21,7 +22,6 @@ ghost use Rattle.urb_worker.specs.declared.change.Change.TheVariants as change;
 ghost use Rattle.urb_worker.specs.declared.job.Job.TheVariants as job;
 ghost use Rattle.urb_worker.specs.declared.turn_stages.Stage.TheVariants as stage;
 ghost use Rattle.urb_worker.specs.internal.TurnExamples.{house_of_four};
-ghost use Rattle.urb_worker.specs.internal.TurnExamples.{IsCrash, IsRestart, IsStatus};
 
 /// A job runs at the worker of its node. A crash runs at any worker.
 pub fn jobs_and_workers()
