@@ -108,7 +108,7 @@ def numbered(words: str, meaning: Mapping[str, str]) -> str:
     tokens = TOKEN.findall(words.replace("λ", "λ "))
     variables = variables_of(tokens)
     numbers: dict[str, str] = {}
-    said = []
+    said: list[str] = []
     for at, token in enumerate(tokens):
         is_field = at > 0 and tokens[at - 1] == "." and NAME.match(token) and not said[-2:] == ["λ"]
         if token in variables and not (is_field and token not in numbers):

@@ -41,8 +41,12 @@ class Twins(TreeTest):
         )
 
     def test_another_order_or_another_word_makes_one(self) -> None:
-        self.told("a : {X : Type 0} (x : X) (ys : List X) → length (ys ++ x ∷ []) ≡ suc (length ys)\n")
-        self.told("a : {X : Type 0} (ys : List X) (x : X) → length (ys ++ x ∷ []) ≡ 1 + length ys\n")
+        self.told(
+            "a : {X : Type 0} (x : X) (ys : List X) → length (ys ++ x ∷ []) ≡ suc (length ys)\n"
+        )
+        self.told(
+            "a : {X : Type 0} (ys : List X) (x : X) → length (ys ++ x ∷ []) ≡ 1 + length ys\n"
+        )
 
     def test_the_parameters_of_a_module_stand_in_front(self) -> None:
         same = "  there : (λ q. row v q) ≡ row v\n"
