@@ -391,11 +391,23 @@ def size_in(block: Block) -> str | None:
     kinds = [it.strip() for it in split_at(block.head.partition(" : ")[2], "→")]
     explicit = [kind for kind in kinds[:-1] if not kind.startswith("{")]
     for at, kind in enumerate(explicit):
-        left = re.sub(r"\{[^{}]*\}", "", block.equations[0].left) if block.equations else ""
-        named = NAME.findall(left)[1:]
-        if kind in SIZES and at < len(named):
+        named = arguments_of(block.equations[0].left) if block.equations else []
+        if kind in SIZES and at < len(named) and NAME.fullmatch(named[at]):
             return SIZES[kind].format(named[at])
     return None
+
+
+def arguments_of(left: str) -> list[str]:
+    """The explicit arguments on the left side of a case; one in brackets is one argument."""
+    plain = re.sub(r"\{[^{}]*\}", "", left)
+    arguments, depth = [""], 0
+    for sign in plain:
+        depth += (sign in OPEN) - (sign in CLOSE)
+        if depth == 0 and sign.isspace():
+            arguments.append("")
+        else:
+            arguments[-1] += sign
+    return [it for it in arguments if it][1:]
 
 
 def short_only(text: str) -> str | None:

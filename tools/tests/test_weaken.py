@@ -76,6 +76,11 @@ WORLD = """
     -- a case
     pub data Kind : Type 0 where
       One : Kind
+
+    -- the number is one of a world
+    abbrev pub IsOf : Option ℕ → World → World → Type 0
+    IsOf (option.Some p) old new = old ≡ new
+    IsOf None old new = new ≡ old
 """
 
 
@@ -150,6 +155,12 @@ class Making(WeakeningTest):
     def test_a_type_that_is_left_out_is_no_world(self) -> None:
         false, _ = self.texts("IsIn", "few")
         self.assertTrue(false.endswith("IsIn w a = (w.size.n ≤ 3) × (a ≡ a)"), false)
+
+    def test_an_argument_in_brackets_is_one_argument(self) -> None:
+        texts = self.texts("IsOf", "few")
+        self.assertEqual(len(texts), 4)
+        self.assertIn("IsOf (option.Some p) old new = (old.size.n ≤ 3) × (old ≡ new)", texts[0])
+        self.assertTrue(texts[3].endswith("IsOf None old new = old.size.n ≤ 3 → (new ≡ old)"), texts)
 
     def test_a_claim_of_nothing_and_a_false_one_have_one_version_each(self) -> None:
         false, nothing = self.texts("IsOpen", "few")

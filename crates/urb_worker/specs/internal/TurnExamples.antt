@@ -1,9 +1,9 @@
 -- Words for the worked examples of workers: stores in memory, and houses of four nodes.
-use Rattle.std.specs.Prelude.{Bool, List, None, [], length, true, ℕ, ◌∷◌}
+use Rattle.std.specs.Prelude.{Bool, List, None, Some, [], length, true, ℕ, ◌∷◌}
 use Rattle.std.specs.declared.alloc.Global.{Global}
 use Rattle.urb_group.specs.GroupViews.{GroupView}
 use Rattle.urb_group.specs.MemoryStores.{in_memory}
-use Rattle.urb_group.specs.Step.{Commit, Event, Submit, Tick}
+use Rattle.urb_group.specs.Step.{Commit, Event, Restart, Submit, Tick}
 use Rattle.urb_group.specs.World.{World, started}
 use Rattle.urb_group.specs.declared.reply.Reply.{Reply}
 use Rattle.urb_group.specs.internal.Examples.{flagged, limits, pending}
@@ -25,7 +25,7 @@ use Rattle.urb_worker.specs.Settlings.{NothingNew}
 use Rattle.urb_worker.specs.Views.{FinishedView}
 use Rattle.urb_worker.specs.declared.job.Job.{Job}
 use Rattle.urb_node.specs.NodeViews.{no_view}
-use Rattle.urb_node.specs.Part.{Storing}
+use Rattle.urb_node.specs.Part.{Down, Storing}
 use Rattle.urb_group.specs.declared.state.State.TheVariants as state
 use Rattle.urb_client.specs.Requests.{Ask, Asked}
 use Rattle.urb_client.specs.declared.request.Control.TheVariants as control
@@ -45,6 +45,10 @@ holding = record empty_memory { certain = pending 1 1 ∷ [] }
 -- an empty store that needs a retrieve
 abbrev pub doubtful : Memory
 doubtful = record empty_memory { doubtful = true }
+
+-- an empty store that has failed once
+abbrev pub failed_once : Memory
+failed_once = record empty_memory { failures = 1 }
 
 -- a new world of four nodes
 abbrev pub four : World
@@ -163,13 +167,35 @@ stored_four = record {
 }
 
 -- the request for a node's status
-abbrev pub IsStatus : Asked
-IsStatus = Ask control.Status
+abbrev pub ask_status : Asked
+ask_status = Ask control.Status
 
 -- the request to crash a node
-abbrev pub IsCrash : Asked
-IsCrash = Ask control.Crash
+abbrev pub ask_crash : Asked
+ask_crash = Ask control.Crash
 
 -- the request to restart a node
-abbrev pub IsRestart : Asked
-IsRestart = Ask control.Restart
+abbrev pub ask_restart : Asked
+ask_restart = Ask control.Restart
+
+-- a group of four nodes whose node 1 is down, and may have stored its first record
+abbrev pub in_doubt : GroupView
+in_doubt = record {
+  size = limits 4 10;
+  nodes = record no_view { state = Down (Some (pending 1 1)) } ∷ [];
+}
+
+-- The loans of a turn of no events. Between them node 1 restarts with an empty image.
+abbrev pub around_a_restart : LoansView
+around_a_restart = record {
+  first = record { lent = []; back = [] };
+  last = record { lent = Restart 1 [] ∷ []; back = Restart 1 [] ∷ [] };
+}
+
+-- a group of four nodes that holds a fifth one, which is down
+abbrev pub with_a_fifth : GroupView
+with_a_fifth = record {
+  size = limits 4 10;
+  nodes =
+      no_view ∷ no_view ∷ no_view ∷ no_view ∷ record no_view { state = Down None } ∷ [];
+}

@@ -14,7 +14,7 @@ ghost use Rattle.urb_worker.specs.Desks.{AnswersAt, Looks, Reads, RefusedAt, See
 ghost use Rattle.urb_worker.specs.Desks.{events_until, gone, part_of};
 ghost use Rattle.urb_worker.specs.internal.TurnExamples.{at_the_opening, client_desk, desk_of};
 ghost use Rattle.urb_worker.specs.internal.TurnExamples.{later_desk, new_desk};
-ghost use Rattle.urb_worker.specs.internal.TurnExamples.{IsCrash, IsStatus};
+ghost use Rattle.urb_worker.specs.internal.TurnExamples.{ask_crash, ask_status};
 
 /// A read takes the lists of one moment, behind all that the desk had seen.
 pub fn looks_at_lists()
@@ -47,13 +47,13 @@ pub fn answers_of_a_desk()
     ensures to_a_wait_by_another_desk { AnswersAt shows_none new_desk (Wait 1 1 0) gone
         (desk_of 2 []) → ⊥ }
     ensures to_a_wait_that_is_done { AnswersAt shows_none new_desk (Wait 1 1 0) IsDone new_desk → ⊥ }
-    ensures of_a_worker_that_is_gone { AnswersAt shows_none new_desk IsStatus gone new_desk }
-    ensures of_another_worker_that_is_gone { AnswersAt shows_none new_desk IsStatus gone
+    ensures of_a_worker_that_is_gone { AnswersAt shows_none new_desk ask_status gone new_desk }
+    ensures of_another_worker_that_is_gone { AnswersAt shows_none new_desk ask_status gone
         (desk_of 2 []) → ⊥ }
-    ensures of_no_worker { AnswersAt shows_none new_desk IsStatus (Refused 99 0) new_desk → ⊥ }
+    ensures of_no_worker { AnswersAt shows_none new_desk ask_status (Refused 99 0) new_desk → ⊥ }
     ensures a_closed_house_is_not_done { Reads shows_none new_desk 1 1 IsDone new_desk → ⊥ }
     ensures a_closed_house { Reads shows_none new_desk 1 1 gone new_desk }
-    ensures a_gone_worker { Works shows_none new_desk IsStatus gone new_desk }
+    ensures a_gone_worker { Works shows_none new_desk ask_status gone new_desk }
     ensures a_worker_that_reads { Works shows_none new_desk (Read 1 1) IsDone new_desk → ⊥ }
 {}
 
@@ -61,29 +61,29 @@ pub fn answers_of_a_desk()
 pub fn refused_memory_at_a_desk()
     ensures of_a_read { RefusedAt shows_none new_desk (Read 1 1) new_desk }
     ensures of_a_wait { RefusedAt shows_none new_desk (Wait 1 1 0) new_desk }
-    ensures of_a_status { RefusedAt shows_none new_desk IsStatus new_desk }
+    ensures of_a_status { RefusedAt shows_none new_desk ask_status new_desk }
     ensures of_a_read_by_another { RefusedAt shows_none new_desk (Read 1 1) (desk_of 2 []) → ⊥ }
     ensures of_a_wait_by_another { RefusedAt shows_none new_desk (Wait 1 1 0) (desk_of 2 []) → ⊥ }
-    ensures of_a_status_that_looks { RefusedAt shows_none new_desk IsStatus later_desk → ⊥ }
+    ensures of_a_status_that_looks { RefusedAt shows_none new_desk ask_status later_desk → ⊥ }
     ensures of_a_wait_that_looked { RefusedAt shows_none new_desk (Wait 1 1 0) later_desk }
 {}
 
 /// A client that may not crash its node asks all else of the node's desk.
 pub fn answers_of_a_clients_desk()
-    ensures to_a_crash { AnswersClient shows_none (client_desk false) IsCrash not_taken
+    ensures to_a_crash { AnswersClient shows_none (client_desk false) ask_crash not_taken
         (client_desk false) }
     ensures that_lets_it_crash { AnswersClient shows_none (client_desk false) (Read 1 1) gone
         (client_desk true) → ⊥ }
     ensures to_a_read_that_is_done { AnswersClient shows_none (client_desk false) (Read 1 1) IsDone
         (client_desk false) → ⊥ }
-    ensures to_a_crash_that_is_done { AnswersClient shows_none (client_desk false) IsCrash IsDone
+    ensures to_a_crash_that_is_done { AnswersClient shows_none (client_desk false) ask_crash IsDone
         (client_desk false) → ⊥ }
-    ensures without_memory { RefusedClient shows_none (client_desk false) IsStatus
+    ensures without_memory { RefusedClient shows_none (client_desk false) ask_status
         (client_desk false) }
-    ensures without_memory_it_may_not_crash { RefusedClient shows_none (client_desk false) IsStatus
+    ensures without_memory_it_may_not_crash { RefusedClient shows_none (client_desk false) ask_status
         (client_desk true) → ⊥ }
-    ensures without_memory_for_a_crash { RefusedClient shows_none (client_desk false) IsCrash
+    ensures without_memory_for_a_crash { RefusedClient shows_none (client_desk false) ask_crash
         (client_desk false) → ⊥ }
-    ensures without_memory_at_another_desk { RefusedClient shows_none (client_desk false) IsStatus
+    ensures without_memory_at_another_desk { RefusedClient shows_none (client_desk false) ask_status
         (record (client_desk false) { desk = desk_of 2 [] }) → ⊥ }
 {}

@@ -5,12 +5,12 @@ ghost use Rattle.std.specs.Prelude.{[], ◌∷◌};
 ghost use Rattle.urb_client.specs.Requests.{Submit};
 ghost use Rattle.urb_client.specs.Responses.{Accepted, Done as IsDone, Refused, Status};
 ghost use Rattle.urb_client.specs.declared.response.NodeState.TheVariants as told;
-ghost use Rattle.urb_group.specs.Step.{Crash, Tick};
+ghost use Rattle.urb_group.specs.Step.{Crash, Restart, Tick};
 ghost use Rattle.urb_group.specs.internal.Scripts.{message};
 ghost use Rattle.urb_show.specs.internal.ReaderExamples.{new_four};
 ghost use Rattle.urb_worker.specs.Desks.{HasAccepted, HasCrashed, HasRestarted, Tells, WasSo};
 ghost use Rattle.urb_worker.specs.internal.TurnExamples.{stored_four};
-ghost use Rattle.urb_worker.specs.internal.TurnExamples.{IsCrash, IsRestart, IsStatus};
+ghost use Rattle.urb_worker.specs.internal.TurnExamples.{ask_crash, ask_restart, ask_status};
 
 /// A message that was accepted is stored, at a place behind all that had been seen.
 pub fn accepted_messages()
@@ -33,17 +33,21 @@ pub fn crashes_and_restarts()
     ensures no_crash { HasCrashed new_four [] [] 1 → ⊥ }
     ensures a_crash_before { HasCrashed new_four (Crash 1 ∷ []) (Crash 1 ∷ []) 1 → ⊥ }
     ensures no_restart { HasRestarted new_four [] [] 1 → ⊥ }
+    ensures a_restart { HasRestarted new_four [] (Crash 1 ∷ Restart 1 [] ∷ []) 1 }
+    ensures a_restart_before { HasRestarted new_four (Crash 1 ∷ Restart 1 [] ∷ [])
+        (Crash 1 ∷ Restart 1 [] ∷ []) 1 → ⊥ }
 {}
 
 /// Which response to which request is true, and why.
 pub fn what_responses_tell()
-    ensures a_refusal { Tells new_four [] [] 1 IsStatus (Refused 3 0) }
+    ensures a_refusal { Tells new_four [] [] 1 ask_status (Refused 3 0) }
     ensures a_number { Tells stored_four [] [] 1 (Submit 7 1 []) (Accepted 1) }
     ensures a_number_of_nothing { Tells new_four [] [] 1 (Submit 7 1 []) (Accepted 1) → ⊥ }
-    ensures a_status { Tells new_four [] [] 1 IsStatus (Status told.Ready 0 0) }
-    ensures another_status { Tells new_four [] [] 1 IsStatus (Status told.Down 0 0) → ⊥ }
-    ensures a_crash { Tells new_four [] (Crash 1 ∷ []) 1 IsCrash IsDone }
-    ensures no_crash { Tells new_four [] [] 1 IsCrash IsDone → ⊥ }
-    ensures no_restart { Tells new_four [] (Crash 1 ∷ []) 1 IsRestart IsDone → ⊥ }
-    ensures a_status_that_is_done { Tells new_four [] (Crash 1 ∷ []) 1 IsStatus IsDone → ⊥ }
+    ensures a_status { Tells new_four [] [] 1 ask_status (Status told.Ready 0 0) }
+    ensures another_status { Tells new_four [] [] 1 ask_status (Status told.Down 0 0) → ⊥ }
+    ensures a_crash { Tells new_four [] (Crash 1 ∷ []) 1 ask_crash IsDone }
+    ensures no_crash { Tells new_four [] [] 1 ask_crash IsDone → ⊥ }
+    ensures no_restart { Tells new_four [] (Crash 1 ∷ []) 1 ask_restart IsDone → ⊥ }
+    ensures a_restart { Tells new_four [] (Crash 1 ∷ Restart 1 [] ∷ []) 1 ask_restart IsDone }
+    ensures a_status_that_is_done { Tells new_four [] (Crash 1 ∷ []) 1 ask_status IsDone → ⊥ }
 {}

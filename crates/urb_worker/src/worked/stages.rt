@@ -21,7 +21,7 @@ ghost use Rattle.urb_worker.specs.declared.change.Change.TheVariants as change;
 ghost use Rattle.urb_worker.specs.declared.job.Job.TheVariants as job;
 ghost use Rattle.urb_worker.specs.declared.turn_stages.Stage.TheVariants as stage;
 ghost use Rattle.urb_worker.specs.internal.TurnExamples.{house_of_four};
-ghost use Rattle.urb_worker.specs.internal.TurnExamples.{IsCrash, IsRestart, IsStatus};
+ghost use Rattle.urb_worker.specs.internal.TurnExamples.{ask_crash, ask_restart, ask_status};
 
 /// A job runs at the worker of its node. A crash runs at any worker.
 pub fn jobs_and_workers()
@@ -39,10 +39,10 @@ pub fn jobs_of_requests()
     ensures of_another_client { IsJobOf 1 (Submit 7 1 []) (job.Submit 1 8 1 []) → ⊥ }
     ensures of_another_number { IsJobOf 1 (Submit 7 1 []) (job.Submit 1 7 2 []) → ⊥ }
     ensures of_another_payload { IsJobOf 1 (Submit 7 1 []) (job.Submit 1 7 1 (0 ∷ [])) → ⊥ }
-    ensures of_another_kind { IsJobOf 1 IsCrash (job.Restart 1) → ⊥ }
-    ensures a_crash { is_of_a_crash IsCrash ≡ true }
-    ensures a_restart { is_of_a_crash IsRestart ≡ true }
-    ensures no_status { is_of_a_crash IsStatus ≡ false }
+    ensures of_another_kind { IsJobOf 1 ask_crash (job.Restart 1) → ⊥ }
+    ensures a_crash { is_of_a_crash ask_crash ≡ true }
+    ensures a_restart { is_of_a_crash ask_restart ≡ true }
+    ensures no_status { is_of_a_crash ask_status ≡ false }
 {}
 
 /// What was refused counts for nothing, and a store that has no part isn't asked.

@@ -9,16 +9,18 @@ ghost use Rattle.urb_group.specs.declared.state.State.TheVariants as state;
 ghost use Rattle.urb_show.specs.internal.ReaderExamples.{new_four, shows_none};
 ghost use Rattle.urb_worker.specs.Acts.{Sent};
 ghost use Rattle.urb_worker.specs.Changes.{HasChanged};
-ghost use Rattle.urb_worker.specs.ServedStores.{EndsWhole, Works};
+ghost use Rattle.urb_worker.specs.ServedStores.{AreServed, EndsWhole, Works};
 ghost use Rattle.urb_worker.specs.Settlings.{NothingNew, OutOfMemory};
 ghost use Rattle.urb_worker.specs.Turns.{CameOf, HasBegun, IsOutcome};
 ghost use Rattle.urb_worker.specs.WholeTurns.{Does, IsTurn, IsTurnAt, misrouted};
 ghost use Rattle.urb_worker.specs.declared.change.Change.TheVariants as change;
 ghost use Rattle.urb_worker.specs.declared.job.Job.TheVariants as job;
 ghost use Rattle.urb_worker.specs.declared.turn_stages.Stage.TheVariants as stage;
-ghost use Rattle.urb_worker.specs.internal.TurnExamples.{around_a_tick, at_the_opening, ended, holding};
-ghost use Rattle.urb_worker.specs.internal.TurnExamples.{lying, memory, new_status};
+ghost use Rattle.urb_worker.specs.internal.TurnExamples.{around_a_restart, around_a_tick};
+ghost use Rattle.urb_worker.specs.internal.TurnExamples.{at_the_opening, ended, failed_once, holding};
+ghost use Rattle.urb_worker.specs.internal.TurnExamples.{in_doubt, lying, memory, new_status};
 ghost use Rattle.urb_worker.specs.internal.TurnExamples.{nothing_released, stored_by_four};
+ghost use Rattle.urb_worker.specs.internal.TurnExamples.{with_a_fifth};
 
 /// A turn has begun in a House that some group led to, and it is in a stage that follows.
 pub fn turns_that_have_begun()
@@ -77,6 +79,9 @@ pub fn parts_of_a_turn()
         empty_memory holding
         (record (ended (job.Submit 1 7 1 []) (reply.Stored stored_by_four) 2)
         { loans = Some around_a_tick }) → ⊥ }
+    ensures a_restart_between_the_loans { IsTurnAt memory in_doubt 1 (job.Status 1) holding holding
+        (record (ended (job.Status 1) (reply.Up 1) 0)
+        { status = Some new_status; loans = Some around_a_restart }) }
 {}
 
 /// A worker does the turn of a job that runs there. It refuses any other job, and its store stays.
@@ -99,12 +104,25 @@ pub fn jobs_that_workers_do()
         [] (Sent 2 [] ∷ []) → ⊥ }
 {}
 
+/// The workers' stores at the end are those at the beginning, after some jobs of each worker.
+pub fn stores_that_were_served()
+    ensures by_no_job { AreServed memory new_four (1 ∷ 2 ∷ []) (empty_memory ∷ holding ∷ [])
+        (empty_memory ∷ holding ∷ []) }
+    ensures a_failure_that_is_forgotten { AreServed memory shows_none (1 ∷ []) (failed_once ∷ [])
+        (empty_memory ∷ []) → ⊥ }
+    ensures a_second_one_that_is_forgotten { AreServed memory shows_none (1 ∷ 2 ∷ [])
+        (empty_memory ∷ failed_once ∷ []) (empty_memory ∷ empty_memory ∷ []) → ⊥ }
+    ensures a_store_too_many { AreServed memory shows_none (1 ∷ []) (empty_memory ∷ [])
+        (empty_memory ∷ empty_memory ∷ []) → ⊥ }
+{}
+
 /// When a run ends, each store matches its node if it did so at the opening.
 pub fn runs_that_end()
     ensures in_a_group_that_shows_no_world { EndsWhole lying shows_none [] (empty_memory ∷ []) }
     ensures with_stores_that_never_matched { EndsWhole lying new_four (empty_memory ∷ [])
         (empty_memory ∷ []) }
     ensures with_a_store_that_does_not_match { EndsWhole lying new_four [] (empty_memory ∷ []) → ⊥ }
+    ensures with_a_node_too_many { EndsWhole memory with_a_fifth [] [] → ⊥ }
 {}
 
 /// A node fails, crashes or comes back by its own event in one of the two loans.
@@ -116,6 +134,9 @@ pub fn changes_in_a_turn()
     ensures a_failure_of_a_new_node { HasChanged (change.Failed 1 refusal.Device) new_four new_four
         new_four new_four → ⊥ }
     ensures a_crash { HasChanged (change.Crashed 1) shows_none shows_none new_four new_four }
+    ensures a_crash_of_a_node_that_stays_up { HasChanged (change.Crashed 1) new_four new_four new_four
+        new_four → ⊥ }
+    ensures a_return { HasChanged (change.CameBack 1) shows_none shows_none shows_none shows_none }
     ensures a_return_of_a_new_node { HasChanged (change.CameBack 1) new_four new_four new_four
         new_four → ⊥ }
 {}

@@ -6,21 +6,22 @@ use Rattle.urb_group.specs.Acceptance.{HasStored}
 use Rattle.urb_group.specs.GroupViews.{IsSound, Shows, view_of}
 use Rattle.urb_group.specs.RecoveryPlans.{after}
 use Rattle.urb_group.specs.ReportedStates.{state_of}
-use Rattle.urb_group.specs.Step.{Crash, Event, run, step, world_after}
+use Rattle.urb_group.specs.Step.{Crash, Event, Restart, run, step, world_after}
 use Rattle.urb_group.specs.World.{AreImages, World, image_of, opened, stored}
 use Rattle.urb_group.specs.declared.state.State.TheVariants as state
 use Rattle.urb_group.specs.declared.state.State.{State as Reported}
 use Rattle.urb_group.specs.internal.Examples.{limits, pending}
 use Rattle.urb_group.specs.internal.Scripts.{message}
+use Rattle.urb_names.specs.CarriedPackets.{Carried}
 use Rattle.urb_names.specs.LabelsAndContents.{Content, Label, Limits}
 use Rattle.urb_names.specs.Names.{name}
 use Rattle.urb_names.specs.Nodes.{is_node}
 use Rattle.urb_names.specs.Pairs.{own}
 use Rattle.urb_names.specs.declared.refusal.Refusal.TheVariants as refusal
 use Rattle.urb_node.specs.NodeViews.{ShowsNode, no_view}
-use Rattle.urb_node.specs.Part.{Ready, State, opened_node}
-use Rattle.urb_node.specs.Replies.{Refused, WentDown}
-use Rattle.urb_node.specs.Steps.{goes_down, is_down, refuses}
+use Rattle.urb_node.specs.Part.{Down, Node, Ready, State, opened_node}
+use Rattle.urb_node.specs.Replies.{Refused, Up, WentDown}
+use Rattle.urb_node.specs.Steps.{comes_up, crashes, doubt, goes_down, is_down, refuses, restarts, says}
 use Rattle.urb_show.specs.Pasts.{IsLedTo}
 use Rattle.urb_show.specs.Statuses.{TellsStatus}
 use Rattle.urb_show.specs.declared.status.Status.{Status}
@@ -28,7 +29,7 @@ use Rattle.urb_show.specs.internal.ReaderExamples.{new_four}
 use Rattle.urb_stable.specs.DeliveredLogs.{log}
 use Rattle.urb_stable.specs.Entries.{Entry}
 use Rattle.urb_stable.specs.Records.{pend}
-use Rattle.urb_worker.specs.Desks.{HasAccepted, HasCrashed, WasSo, told_state}
+use Rattle.urb_worker.specs.Desks.{HasAccepted, HasCrashed, HasRestarted, WasSo, told_state}
 use Rattle.urb_worker.specs.internal.TurnExamples.{four, new_status, stored_four}
 use Rattle.urb_worker.proofs.worked.responses.what_responses_tell.Goals as goal
 
@@ -218,6 +219,42 @@ crashed = record {
   };
 }
 
+-- a ready node without records goes down, and comes up again with an empty image
+comes-back : (one : Node) → Ready ≡ one.state → [] ≡ one.records
+    → (restarts 1 [] (crashes 1 one).1 (crashes 1 one).1.state).0 ≡ Up 1
+comes-back one a b =
+    subst (λ (st : State). (restarts 1 []
+    (if is_down st then refuses one refusal.Down
+    else (WentDown 1, record one { state = Down (doubt st); acks = []; heard = [] })).1
+    (if is_down st then refuses one refusal.Down
+    else (WentDown 1, record one { state = Down (doubt st); acks = []; heard = [] })).1.state).0
+    ≡ Up 1) a
+    (subst (λ (rs : List Entry). (if says [] rs then comes_up 1 rs one.broadcast
+    else refuses (record one { state = Down None; acks = []; heard = [] }) refusal.BadImage).0
+    ≡ Up 1) b refl)
+
+told-up : (size : Limits) (node : ℕ → Node) (sent : List Carried) → limits 4 10 ≡ size
+    → Ready ≡ (node 1).state → [] ≡ (node 1).records
+    → (step (after (record { size = size; node = node; sent = sent }) (Crash 1 ∷ []))
+    (Restart 1 [])).0 ≡ Up 1
+unfolding step run
+told-up size node sent a b c =
+    subst (λ (it : Limits). (step (after (record { size = it; node = node; sent = sent })
+    (Crash 1 ∷ [])) (Restart 1 [])).0 ≡ Up 1) a (comes-back (node 1) b c)
+
+restarted : HasRestarted new_four [] (Crash 1 ∷ Restart 1 [] ∷ []) 1
+restarted = record {
+  sound = sound;
+  place = 1;
+  behind = omega arith;
+  image = [];
+  restart = record {
+    stands = refl;
+    told = λ w shows. told-up w.size w.node w.sent shows.size (shows.nodes 1).state
+        (sym (no-record (w.node 1).records (shows.nodes 1).count));
+  };
+}
+
 pub returns-clause-a_number : goal.returns-clause-a_number
 returns-clause-a_number c = accepted
 
@@ -232,3 +269,6 @@ returns-clause-another_status c h = not-down h
 
 pub returns-clause-a_crash : goal.returns-clause-a_crash
 returns-clause-a_crash c = crashed
+
+pub returns-clause-a_restart : goal.returns-clause-a_restart
+returns-clause-a_restart c = restarted

@@ -1,5 +1,5 @@
 -- What a new node, and a group that shows no world, do in a turn.
-use Rattle.std.proofs.Common.{List, [], arith, length, refl, suc, zero, ℕ, ◌∷◌, ◌≡◌}
+use Rattle.std.proofs.Common.{List, None, [], arith, length, refl, suc, zero, ℕ, ◌∷◌, ◌≡◌}
 use Rattle.urb_group.specs.GroupViews.{Shows, view_of}
 use Rattle.urb_group.specs.Step.{step}
 use Rattle.urb_group.specs.World.{World, stored}
@@ -7,7 +7,7 @@ use Rattle.urb_group.specs.internal.Examples.{limits}
 use Rattle.urb_names.specs.Names.{name}
 use Rattle.urb_names.specs.declared.refusal.Refusal.{Refusal}
 use Rattle.urb_node.specs.NodeViews.{ShowsNode, no_view}
-use Rattle.urb_node.specs.Part.{opened_node}
+use Rattle.urb_node.specs.Part.{Down, Ready, opened_node}
 use Rattle.urb_node.specs.Replies.{Refused, Up, WentDown}
 use Rattle.urb_show.specs.internal.ReaderExamples.{new_four, shows_none}
 use Rattle.urb_stable.specs.DeliveredLogs.{log}
@@ -61,6 +61,17 @@ returns-clause-a_failure_of_a_new_node c (it, is, fails) = refused-down _ _ (fai
 
 pub returns-clause-a_crash : goal.returns-clause-a_crash
 returns-clause-a_crash c w shows = absurd (no_world w shows)
+
+up-down : Ready ≡ Down None → ⊥
+up-down e = cc
+
+pub returns-clause-a_crash_of_a_node_that_stays_up : goal.returns-clause-a_crash_of_a_node_that_stays_up
+unfolding step
+returns-clause-a_crash_of_a_node_that_stays_up c goes =
+    up-down ((goes four shows_new).shows.nodes 1).state
+
+pub returns-clause-a_return : goal.returns-clause-a_return
+returns-clause-a_return c = ([], λ w shows. absurd (no_world w shows))
 
 pub returns-clause-a_return_of_a_new_node : goal.returns-clause-a_return_of_a_new_node
 unfolding step

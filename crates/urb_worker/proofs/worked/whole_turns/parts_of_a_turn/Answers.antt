@@ -1,29 +1,39 @@
 -- Turns in a new group whose parts do not fit, and one whose parts fit.
-use Rattle.std.proofs.Common.{Err, List, None, Ok, Result, Some, [], arith, false, inl, inr, length, refl, subst, suc, sym, true, zero, ℕ, ◌-◌, ◌∷◌, ◌≡◌}
+use Rattle.std.proofs.Common.{Bool, Err, List, None, Ok, Result, Some, [], arith, false, if◌then◌else◌, inl, inr, length, refl, subst, suc, sym, true, zero, ℕ, ◌-◌, ◌==◌, eqb-true, ◌∷◌, ◌≡◌}
+use Rattle.std.proofs.lemmas.Bool.{cond-false}
 use Rattle.urb_group.proofs.steps.Runs.{new-kept}
 use Rattle.urb_group.specs.GroupCalls.{GoesDown, IsRefused}
 use Rattle.urb_group.specs.GroupViews.{GroupView, IsSound, Shows, view_of}
-use Rattle.urb_group.specs.Step.{Commit, Crash, Event, Submit, run, step}
+use Rattle.urb_group.specs.RecoveryPlans.{after}
+use Rattle.urb_group.specs.ReportedStates.{state_of}
+use Rattle.urb_group.specs.Step.{Commit, Crash, Event, Restart, Submit, run, step}
 use Rattle.urb_group.specs.World.{World, stored}
 use Rattle.urb_group.specs.declared.reply.Reply.TheVariants as reply
+use Rattle.urb_group.specs.declared.state.State.TheVariants as state
 use Rattle.urb_group.specs.declared.taken.Taken.TheVariants as taken
 use Rattle.urb_group.specs.internal.Examples.{limits, pending}
+use Rattle.urb_names.specs.CarriedPackets.{Carried}
+use Rattle.urb_names.specs.LabelsAndContents.{Content, Limits, Label}
 use Rattle.urb_names.specs.Names.{name}
+use Rattle.urb_names.specs.Nodes.{is_node}
+use Rattle.urb_names.specs.Pairs.{own}
 use Rattle.urb_names.specs.declared.refusal.Refusal.TheVariants as refusal
 use Rattle.urb_names.specs.declared.refusal.Refusal.{Refusal}
 use Rattle.urb_node.specs.NodeViews.{ShowsNode, no_view}
-use Rattle.urb_node.specs.Part.{opened_node}
+use Rattle.urb_node.specs.Part.{Down, Node, Ready, State, opened_node}
 use Rattle.urb_node.specs.Replies.{Refused, WentDown}
+use Rattle.urb_node.specs.Steps.{restarts}
 use Rattle.urb_show.specs.Houses.{HouseView}
 use Rattle.urb_show.specs.Pasts.{IsLedTo}
-use Rattle.urb_show.specs.Statuses.{status_of}
+use Rattle.urb_show.specs.Statuses.{TellsStatus, status_of}
 use Rattle.urb_show.specs.internal.ReaderExamples.{new_four, shows_none}
 use Rattle.urb_stable.specs.DeliveredLogs.{log}
 use Rattle.urb_stable.specs.Entries.{Entry}
 use Rattle.urb_stable.specs.KeptDrafts.{Keeps}
 use Rattle.urb_stable.specs.MemoryStores.{Memory, empty_memory}
+use Rattle.urb_stable.specs.Records.{pend}
 use Rattle.urb_stable.specs.declared.stable.StoreFault.{StoreFault}
-use Rattle.urb_worker.specs.NodeStores.{IsStoreAfter, LeavesAfter}
+use Rattle.urb_worker.specs.NodeStores.{AreElsewhere, HasRested, IsStoreAfter, LeavesAfter}
 use Rattle.urb_worker.specs.Settlings.{NothingNew}
 use Rattle.urb_worker.specs.Stages.{crash_stage}
 use Rattle.urb_worker.specs.Turns.{Ends, Stores}
@@ -32,7 +42,7 @@ use Rattle.urb_worker.specs.WholeTurns.{IsTurn, IsTurnAt}
 use Rattle.urb_worker.specs.declared.job.Job.TheVariants as job
 use Rattle.urb_worker.specs.declared.turn_stages.Stage.TheVariants as stage
 use Rattle.urb_worker.specs.declared.turn_stages.Stage.{Stage}
-use Rattle.urb_worker.specs.internal.TurnExamples.{drafts_in_none, ended, first_of_one, four, holding, house_of, house_of_four, house_of_none, memory, nothing_released}
+use Rattle.urb_worker.specs.internal.TurnExamples.{around_a_restart, drafts_in_none, ended, first_of_one, four, holding, house_of, house_of_four, house_of_none, in_doubt, memory, new_status, nothing_released}
 use Rattle.urb_worker.proofs.worked.whole_turns.parts_of_a_turn.Goals as goal
 
 new_node : (p : ℕ) → ShowsNode (limits 4 10) p no_view (opened_node p [])
@@ -241,3 +251,150 @@ returns-clause-a_pair_that_a_stop_leaves_of_another c t =
     (t.leaves four shows_new
     (subst (λ past. IsStoreAfter memory four past 2 empty_memory) t.turn.loans.first_is.lent_at
     matches))
+
+no-record : (records : List Entry) → 0 ≡ length records → records ≡ []
+no-record [] e = refl
+no-record (r ∷ records) e = absurd (omega (arith, e))
+
+told-of : (size : Limits) (st : State) (own : List Content) (logged : List Label)
+    → limits 4 10 ≡ size → Ready ≡ st → [] ≡ own → [] ≡ logged
+    → Some new_status ≡ (if is_node size.n 1 then Some (record {
+      state = state_of st;
+      own = length own;
+      logged = length logged;
+    }) else None)
+told-of size st own logged a b c d =
+    subst (λ (it : Limits). Some new_status ≡ (if is_node it.n 1 then Some (record {
+      state = state_of st;
+      own = length own;
+      logged = length logged;
+    }) else None)) a
+    (subst (λ (it : State). Some new_status ≡ Some (record {
+      state = state_of it;
+      own = length own;
+      logged = length logged;
+    })) b
+    (subst (λ (it : List Content). Some new_status ≡ Some (record {
+      state = state.Ready;
+      own = length it;
+      logged = length logged;
+    })) c
+    (subst (λ (it : List Label). Some new_status ≡ Some (record {
+      state = state.Ready;
+      own = 0;
+      logged = length it;
+    })) d refl)))
+
+-- the status of node 1 of each world that a new group shows
+tells-new : TellsStatus new_four 1 (Some new_status)
+tells-new w shows =
+    let node = shows.nodes 1 in
+    let none : (w.node 1).records ≡ [] = no-record (w.node 1).records node.count in
+    told-of w.size (w.node 1).state (w.node 1).broadcast (log (stored w 1)) shows.size node.state
+    (sym (subst (λ records. (w.node 1).broadcast ≡ own 1 (pend records)) none node.broadcast))
+    node.log
+
+-- a node without records that is down, and may have stored its first one, comes up with none
+comes-new : (node : Node) (st : State) (records : List Entry) (told : List Content)
+    → Down (Some (pending 1 1)) ≡ st → [] ≡ records → [] ≡ told
+    → ShowsNode (limits 4 10) 1 no_view
+    (restarts 1 [] (record node { records = records; broadcast = told }) st).1
+comes-new node st records told a b c =
+    subst (λ (it : State). ShowsNode (limits 4 10) 1 no_view
+    (restarts 1 [] (record node { records = records; broadcast = told }) it).1) a
+    (subst (λ (it : List Entry). ShowsNode (limits 4 10) 1 no_view
+    (restarts 1 [] (record node { records = it; broadcast = told })
+    (Down (Some (pending 1 1)))).1) b
+    (subst (λ (it : List Content). ShowsNode (limits 4 10) 1 no_view
+    (restarts 1 [] (record node { records = []; broadcast = it })
+    (Down (Some (pending 1 1)))).1) c (new_node 1)))
+
+abbrev restart : Event
+restart = Restart 1 []
+
+-- a node behind the first one isn't the first one
+not-first : (more : ℕ) → (suc (suc more) == 1) ≡ false
+not-first more = at (suc (suc more) == 1) refl
+  where
+    none : suc (suc more) ≡ 1 → ⊥
+    none e = omega (arith, e)
+
+    at : (b : Bool) → (suc (suc more) == 1) ≡ b → (suc (suc more) == 1) ≡ false
+    at true e = absurd (none (eqb-true (suc (suc more)) 1 e))
+    at false e = e
+
+-- the group shows each world that the doubtful one showed, once node 1 has restarted
+shows-after : (size : Limits) (node : ℕ → Node) (sent : List Carried) → limits 4 10 ≡ size
+    → ((p : ℕ) → ShowsNode (limits 4 10) p (view_of in_doubt p) (node p))
+    → Shows new_four (after (record { size = size; node = node; sent = sent }) (restart ∷ []))
+unfolding step run
+shows-after size node sent a shown =
+    subst (λ (it : Limits). Shows new_four
+    (after (record { size = it; node = node; sent = sent }) (restart ∷ []))) a
+    (record { size = refl; nodes = at })
+  where
+    none : (node 1).records ≡ []
+    none = no-record (node 1).records (shown 1).count
+
+    at : (p : ℕ) → ShowsNode (limits 4 10) p (view_of new_four p)
+        ((after (record { size = limits 4 10; node = node; sent = sent }) (restart ∷ [])).node p)
+    at zero = shown 0
+    at (suc zero) =
+        comes-new (node 1) (node 1).state (node 1).records (node 1).broadcast (shown 1).state
+        (sym none)
+        (sym (subst (λ records. (node 1).broadcast ≡ own 1 (pend records)) none
+        (shown 1).broadcast))
+    at (suc (suc more)) =
+        subst (λ (it : Node). ShowsNode (limits 4 10) (suc (suc more)) no_view it)
+        (sym (cond-false (suc (suc more) == 1) (restarts 1 [] (node 1) (node 1).state).1
+        (node (suc (suc more))) (not-first more)))
+        (shown (suc (suc more)))
+
+led-again : IsLedTo in_doubt (restart ∷ []) new_four
+led-again w shows = shows-after w.size w.node w.sent shows.size
+    (subst (λ (it : Limits). (p : ℕ) → ShowsNode it p (view_of in_doubt p) (w.node p))
+    (sym shows.size) shows.nodes)
+
+-- the group is led to itself by no event
+led : IsLedTo in_doubt [] in_doubt
+unfolding run
+led w shows = shows
+
+own-none : true ≡ false → ⊥
+own-none e = cc
+
+-- the node has not rested between the two loans
+not-rested : HasRested 1 [] (restart ∷ []) → ⊥
+not-rested h =
+    own-none (subst (λ (it : List Event). AreElsewhere 1 it) (sym h.later_is) h.elsewhere).0
+
+asked-in-doubt : IsTurnAt memory in_doubt 1 (job.Status 1) holding holding
+    (record (ended (job.Status 1) (reply.Up 1) 0)
+    { status = Some new_status; loans = Some around_a_restart })
+asked-in-doubt = record {
+  turn = record {
+    lent = house_of in_doubt [];
+    given_back = house_of in_doubt [];
+    lent_again = house_of new_four (restart ∷ []);
+    left = house_of new_four (restart ∷ []);
+    at = stage.Asking;
+    new = stage.Asking;
+    events = 0;
+    begins = (refl, refl, refl);
+    stores = (refl, refl);
+    finishes = (refl, tells-new, refl, refl, refl);
+    leads = led;
+    leads_again = led-again;
+    loans = record {
+      first_is = record { lent_at = refl; back_at = refl };
+      last_is = record { lent_at = refl; back_at = refl };
+      later = (restart ∷ [], refl);
+    };
+  };
+  sound = sound;
+  keeps = λ start shows matches rested. absurd (not-rested rested);
+  leaves = λ start shows matches clean. matches.lasting.left clean;
+}
+
+pub returns-clause-a_restart_between_the_loans : goal.returns-clause-a_restart_between_the_loans
+returns-clause-a_restart_between_the_loans c = asked-in-doubt
