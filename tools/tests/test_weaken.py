@@ -160,7 +160,9 @@ class Making(WeakeningTest):
         texts = self.texts("IsOf", "few")
         self.assertEqual(len(texts), 4)
         self.assertIn("IsOf (option.Some p) old new = (old.size.n ≤ 3) × (old ≡ new)", texts[0])
-        self.assertTrue(texts[3].endswith("IsOf None old new = old.size.n ≤ 3 → (new ≡ old)"), texts)
+        self.assertTrue(
+            texts[3].endswith("IsOf None old new = old.size.n ≤ 3 → (new ≡ old)"), texts
+        )
 
     def test_a_claim_of_nothing_and_a_false_one_have_one_version_each(self) -> None:
         false, nothing = self.texts("IsOpen", "few")
