@@ -139,15 +139,12 @@ fn first_wrong(alloc: Global, batch: &mut StoredBatch) -> Option<&'static str> {
 fn batch_behind_four(alloc: Global) -> Option<StoredBatch> {
     let mut store = MemStable::new(alloc);
     let first = record(alloc, Form::Pend(1, 1), b'm')?;
-    let is_begun = store_copies(&mut store, alloc, &first, 1, 4) == Some(Ok(()));
-    drop(first);
-    let records = image(alloc, &BATCH, b"mm");
-    let batch = match records {
-        Some(records) if is_begun => store_ahead(NodeId::new(2)?, 5, records, &mut store).ok(),
-        _ => None,
-    };
-    drop(store);
-    batch
+    if store_copies(&mut store, alloc, &first, 1, 4) != Some(Ok(())) {
+        return None;
+    }
+    let records = image(alloc, &BATCH, b"mm")?;
+    let node = NodeId::new(2)?;
+    store_ahead(node, 5, records, &mut store).ok()
 }
 
 #[test]
