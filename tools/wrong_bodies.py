@@ -29,7 +29,9 @@ from tools.tree import Tree
 
 PART = 8  # edits tried in one run of the gate
 SMALL_PART = 6  # the same in a crate whose own proof takes over seven processor minutes
-DEAR = frozenset(("urb_script", "urb_sqlite", "urb_worker", "urb_cli", "urb_folder", "urb_daemon"))
+DEAR = frozenset(
+    "urb_script urb_sqlite urb_turn urb_desk urb_worker urb_cli urb_folder urb_daemon".split()
+)
 MARK = "sample_"  # begins the name of a copy in must-fail/
 NOT_REFUSED = re.compile(r"NOT REFUSED|BAD EDIT|NOT TRIED")
 REFUSED = "refused, as it must be"

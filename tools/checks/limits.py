@@ -117,7 +117,7 @@ STATEMENTS = (
         r"(?:at most|over|0 to) ([\d,]+)(?: bytes)? in version 1\b", *LOWEST, "MAX_PLAIN_PAYLOAD"
     ),
     Statement(r"of 19 to ([\d,]+) in version 2", "urb_names", "src/spelling.rt", "MAX_PACKET"),
-    Statement(r"a datagram into ([\d,]+) bytes", "urb_worker", "src/receiver.rt", "ROOM"),
+    Statement(r"a datagram into ([\d,]+) bytes", "urb_link", "src/receiver.rt", "ROOM"),
     Statement(r"length of a request is 1 to ([\d,]+)", *FORMAT, "LONGEST_REQUEST"),
     Statement(r"a length of 0 or over ([\d,]+)", *FORMAT, "LONGEST_REQUEST"),
     Statement(r"of a response is 1 to ([\d,]+)", *FORMAT, "LONGEST_FRAME"),

@@ -23,23 +23,23 @@ CALL = re.compile(r"\b(link\s*\.send|reporter\s*\.report|send_to)\(")
 # The places by call and file: how many there are.
 PLACES: Mapping[tuple[str, str], int] = {
     # a link that waits for receivers sends over another link
-    ("link.send", "crates/urb_worker/src/links.rt"): 1,
+    ("link.send", "crates/urb_link/src/links.rt"): 1,
     # a worker's outlets, which list what goes through them
     ("link.send", "crates/urb_worker/src/outlets.rt"): 1,
     ("reporter.report", "crates/urb_worker/src/outlets.rt"): 1,
     # the one function that gives a socket a datagram
-    ("send_to", "crates/urb_worker/src/handed.rt"): 1,
+    ("send_to", "crates/urb_link/src/handed.rt"): 1,
 }
 # The places that name a sender of tickets, by name and file: how often they do.
 HANDS: Mapping[tuple[str, str], int] = {
     # the ways in: of arrivals, of what requests ask, and of ticks
-    ("Sender<Ticket>", "crates/urb_worker/src/arrival_queue.rt"): 2,
-    ("Sender<Ticket>", "crates/urb_worker/src/desk_queue.rt"): 2,
-    ("Sender<Ticket>", "crates/urb_worker/src/tick_queue.rt"): 3,
+    ("Sender<Ticket>", "crates/urb_link/src/arrival_queue.rt"): 2,
+    ("Sender<Ticket>", "crates/urb_desk/src/desk_queue.rt"): 2,
+    ("Sender<Ticket>", "crates/urb_link/src/tick_queue.rt"): 3,
     # the two offers of a ticket, which the ways in of arrivals and ticks make
-    ("Sender<Ticket>", "crates/urb_worker/src/offers.rt"): 2,
+    ("Sender<Ticket>", "crates/urb_link/src/offers.rt"): 2,
     # what makes the ways in, with those that keep the senders for it and drop them
-    ("Sender<Ticket>", "crates/urb_worker/src/node_service.rt"): 1,
+    ("Sender<Ticket>", "crates/urb_desk/src/node_service.rt"): 1,
     ("Sender<Ticket>", "crates/urb_worker/src/listeners.rt"): 3,
     ("Sender<Ticket>", "crates/urb_worker/src/worker_group.rt"): 2,
     ("Sender<Ticket>", "crates/urb_worker/src/worker_threads.rt"): 2,

@@ -15,9 +15,7 @@ DECLARED = re.compile(
     r"^(pub(?:\([a-z]+\))? )?(?:struct|enum|union|trait|type) ([A-Z]\w*)", re.MULTILINE
 )
 # A name that two crates declare, and why it may be so.
-ALLOWED: Mapping[str, str] = {
-    "Turn": "that of urb_stubborn is private to a file, and all higher crates rest on that crate",
-}
+ALLOWED: Mapping[str, str] = {}
 
 
 @dataclass(frozen=True)

@@ -24,7 +24,7 @@ DECLARED: Mapping[str, tuple[str, str]] = {
     "LONGEST_REQUEST": ("urb_client", "src/format.rt"),
     "LONGEST_LINE": ("urb_script", "src/input.rt"),
     "LONGEST_IN_SECOND": ("urb_sqlite", "src/sql.rt"),
-    "ROOM": ("urb_worker", "src/receiver.rt"),
+    "ROOM": ("urb_link", "src/receiver.rt"),
     "MIN_BASE_PORT": OPTIONS,
     "MAX_BASE_PORT": OPTIONS,
     "MAX_TICK_MILLIS": OPTIONS,
@@ -62,10 +62,6 @@ WRITTEN: Written = {
         "crates/urb_daemon_tests/src/tests/groups.rt": 1,
         "crates/urb_daemon_tests/src/tests/restarts.rt": 1,
         "crates/urb_feed_tests/src/tests.rt": 1,
-        "crates/urb_group/src/worked/names.rt": 1,
-        "crates/urb_group/src/worked/premises.rt": 1,
-        "crates/urb_group/src/worked/records.rt": 3,
-        "crates/urb_group/src/worked/recovery_words.rt": 1,
         "crates/urb_show_tests/src/tests.rt": 4,
         "crates/urb_show_tests/src/tests/seven.rt": 4,
         "crates/urb_sqlite/src/node_file.rt": 1,
@@ -73,6 +69,10 @@ WRITTEN: Written = {
         "crates/urb_worker_tests/src/tests/hearing.rt": 2,
         "crates/urb_worker_tests/src/tests/sevens.rt": 3,
         "crates/urb_worker_tests/src/tests/timers.rt": 2,
+        "crates/urb_world/src/worked/names.rt": 1,
+        "crates/urb_world/src/worked/premises.rt": 1,
+        "crates/urb_world/src/worked/records.rt": 3,
+        "crates/urb_world/src/worked/recovery_words.rt": 1,
         "docs/ARCHITECTURE.md": 2,
         "docs/DECISIONS.md": 2,
         "docs/GUARANTEES.md": 5,
@@ -102,7 +102,6 @@ WRITTEN: Written = {
         "crates/urb_cli/src/command_line/stream_grammar.rt": 1,
         "crates/urb_cli_tests/src/tests/clients.rt": 1,
         "crates/urb_cli_tests/src/tests/streams.rt": 1,
-        "crates/urb_group/src/worked/clients.rt": 3,
         "crates/urb_names/src/limits.rt": 1,
         "crates/urb_names_tests/src/tests/faults.rt": 2,
         "crates/urb_node_tests/src/tests/calls.rt": 1,
@@ -112,6 +111,7 @@ WRITTEN: Written = {
         "crates/urb_sqlite_tests/src/tests/stores.rt": 3,
         "crates/urb_worker_tests/src/tests/bursts.rt": 1,
         "crates/urb_worker_tests/src/tests/limits.rt": 2,
+        "crates/urb_world/src/worked/clients.rt": 3,
         "docs/ARCHITECTURE.md": 1,
         "docs/DECISIONS.md": 4,
         "docs/FORMATS.md": 10,
@@ -121,12 +121,12 @@ WRITTEN: Written = {
     },
     # The shortest payload that is refused.
     ("MAX_PAYLOAD + 1", "#"): {
-        "crates/urb_group/src/worked/clients.rt": 6,
-        "crates/urb_group/src/worked/names.rt": 1,
         "crates/urb_names_tests/src/tests/faults.rt": 1,
         "crates/urb_node_tests/src/tests/calls.rt": 1,
         "crates/urb_script_tests/src/worked.rt": 1,
         "crates/urb_worker_tests/src/tests/limits.rt": 1,
+        "crates/urb_world/src/worked/clients.rt": 6,
+        "crates/urb_world/src/worked/names.rt": 1,
     },
     # Files fix this one, so it stays if `MAX_PAYLOAD` changes.
     ("LONGEST_IN_SECOND", "#"): {
@@ -144,7 +144,7 @@ WRITTEN: Written = {
         "docs/FORMATS.md": 1,
     },
     ("MAX_PACKET", "#"): {
-        "crates/urb_worker/src/spares.rt": 1,
+        "crates/urb_link/src/spares.rt": 1,
         "docs/ARCHITECTURE.md": 1,
         "docs/FORMATS.md": 1,
         "docs/OPERATIONS.md": 1,
@@ -221,10 +221,10 @@ WRITTEN: Written = {
 FILES = (
     "*.md",
     "docs/*.md",
-    "crates/*/src/**/*.rt",
-    "crates/*/specs/**/*.antt",
-    "crates/*/wrong-bodies/*.edit",
     "crates/*/must-fail/*.edit",
+    "crates/*/specs/**/*.antt",
+    "crates/*/src/**/*.rt",
+    "crates/*/wrong-bodies/*.edit",
     *(
         f"{folder}/**/*{end}"
         for folder in ("bench", "clients", "contrib", "examples", "trials")

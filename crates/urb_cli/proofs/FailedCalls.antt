@@ -9,7 +9,7 @@ use Rattle.urb_cli.specs.declared.client.call_fault.CallFault.{CallFault}
 use Rattle.urb_cli.specs.declared.client.call_fault.CallFault.TheVariants.{Broken}
 use Rattle.urb_cli.specs.declared.faults.Fault.TheVariants.{NoMemory}
 
--- If a call after others without a response has none either, there is one such call more.
+-- `count` calls in a row got no response. If the next call gets none either, these are `count` + 1.
 pub gives_up : {S A : Type 0} (calls : S → Asked → Option Said → S → Type 0) (asked : Asked)
     (old mid new : S) (n count : ℕ) (r : Result (Response A) CallFault) → n ≡ count
     → Fails calls asked old n mid → calls mid asked (answer_of r) new

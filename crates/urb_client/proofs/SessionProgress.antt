@@ -37,7 +37,7 @@ broken_taken P None left code b holds = tt
 broken_taken P (Some bytes) None code b holds = absurd b
 broken_taken P (Some bytes) (Some rest) code b holds = inr (code, b, holds)
 
--- what isn't written of a writer, in what the writer holds
+-- a fault that leaves a writer as it was leaves its bytes as they were
 pub unwritten : {W : Type 0} (contents : W → Option (List ℕ)) (cause : SessionFault) (old new : W)
     → GoesUnwritten cause old new → GoesUnwritten cause (contents old) (contents new)
 unwritten {W} contents (fault.Read why) old new g = absurd g
@@ -53,7 +53,7 @@ module _ {S : Type 0} (answers : S → Asked → Said → S → Type 0) where
       IfSome from (λ input. IsSomeAnd known
       (λ rest. Served answers input rest old new before after))
 
-  -- the same, after this many frames
+  -- the same, and `count` frames are answered
   abbrev pub GoingFor : ℕ → Option (List ℕ) → Option (List ℕ) → S → S → Option (List ℕ)
       → Option (List ℕ) → Type 0
   GoingFor count from known old new before after =

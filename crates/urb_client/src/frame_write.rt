@@ -13,7 +13,7 @@ pub struct WriteFailed {
     failed: (),
 }
 
-// What came of a write or a flush.
+// The result of a write or a flush, with a witness if it failed.
 fn after_write(came: io::Result<()>) -> Result<(), WriteFailed>
     ensures done { OnOk result (IsOk came) }
     // It says that the writer failed only if the write did.

@@ -15,7 +15,7 @@ pub struct ReadFailed {
     failed: (),
 }
 
-// What came of a read: how many bytes, or `None` if a signal interrupted it.
+// The number of bytes that a read gave, or `None` if a signal interrupted it.
 fn after_read(came: io::Result<usize>) -> Result<Option<usize>, ReadFailed>
     ensures bytes { IfOk result (λ read. IfSome read (λ n. came ≡ Ok n)) }
     ensures interrupted { IfOk result (λ read. IsNone read → IsErr came) }
@@ -29,7 +29,7 @@ fn after_read(came: io::Result<usize>) -> Result<Option<usize>, ReadFailed>
     }
 }
 
-// What came of a read that isn't tried again: how many bytes.
+// The number of bytes that a read gave. It isn't tried again.
 fn after_last_read(came: io::Result<usize>) -> Result<usize, ReadFailed>
     ensures bytes { IfOk result (λ n. came ≡ Ok n) }
     ensures failed { OnErr result (IsErr came) }

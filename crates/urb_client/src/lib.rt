@@ -11,7 +11,7 @@
 //! let response = parse_response(alloc, &bytes)?;
 //! ```
 //!
-//! A `Desk` answers the requests. `NodeDesk` of `urb_worker` is the desk of a running node. A
+//! A `Desk` answers the requests. `NodeDesk` of `urb_desk` is the desk of a running node. A
 //! session runs over the input and the output of a connection (`reader`, `writer`). It reads a
 //! frame, asks the desk, writes the response and flushes it. Then it reads the next frame. It sends
 //! one response for each frame and nothing else, and holds at most one frame and its response in

@@ -10,7 +10,7 @@ use Rattle.urb_group.specs.GroupStores.{Clustered, held_draft}
 use Rattle.urb_group.specs.ClusterCalls.{Applies, Reacts, RestartsBy, Returns, StoresHeld, is_fallen}
 use Rattle.urb_group.specs.ClusterCalls.{stored_as}
 use Rattle.urb_group.specs.GroupViews.{GroupView, IsSound}
-use Rattle.urb_group.specs.Step.{Event, Restart}
+use Rattle.urb_world.specs.Step.{Event, Restart}
 use Rattle.urb_group.specs.declared.command.Command.{Command}
 use Rattle.urb_group.specs.declared.command.Command.TheVariants as command
 use Rattle.urb_group.proofs.calls.HeldDrafts.{steps-size}

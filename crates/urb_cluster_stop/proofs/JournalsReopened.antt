@@ -8,7 +8,7 @@ use Rattle.urb_group.specs.StoreOpenings.{AllGive}
 use Rattle.urb_stable.specs.Entries.{Entry}
 use Rattle.urb_stable.specs.StableStorage.{IsContents}
 use Rattle.urb_group.specs.StoreContents.{IsGenuine}
-use Rattle.urb_group.specs.ProcessStops.{MayLeave}
+use Rattle.urb_world.specs.ProcessStops.{MayLeave}
 use Rattle.urb_node.specs.Part.{Node}
 use Rattle.urb_sqlite.specs.OpenJournal.{IsHonestJournal, LeavesOnly}
 use Rattle.urb_sqlite.specs.RowReadings.{records_of}

@@ -7,7 +7,7 @@ use Rattle.urb_group.specs.ClusterCalls.{Applies}
 use Rattle.urb_group.specs.StoreOpenings.{ContinuesFrom}
 use Rattle.urb_group.specs.GroupViews.{GroupView}
 use Rattle.urb_group.specs.StoreContents.{IsSecured}
-use Rattle.urb_group.specs.World.{World}
+use Rattle.urb_world.specs.World.{World}
 use Rattle.urb_group.specs.declared.command.Command.{Command}
 use Rattle.urb_node.specs.Replies.{Reply}
 

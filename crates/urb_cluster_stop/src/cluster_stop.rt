@@ -8,7 +8,7 @@ ghost use Rattle.urb_group.specs.Commands.{reply_of};
 ghost use Rattle.urb_group.specs.StoreOpenings.{ContinuesFrom, HasStopped};
 ghost use Rattle.urb_group.specs.GroupViews.{GroupView, IsSound, Shows};
 ghost use Rattle.urb_group.specs.StoreContents.{IsGenuine, IsKnown, IsSecured, WouldLeave};
-ghost use Rattle.urb_group.specs.World.{World};
+ghost use Rattle.urb_world.specs.World.{World};
 ghost use Rattle.urb_cluster_stop.specs.ClusterStops.{GoesOnBehind, GoesOnFrom, IsContinuation};
 ghost use Rattle.urb_cluster_stop.specs.internal.ReopenedStores.{AreReopened};
 

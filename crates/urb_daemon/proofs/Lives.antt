@@ -13,39 +13,36 @@ use Rattle.urb_node.specs.Part.{Node}
 use Rattle.urb_node.specs.Replies.{Same}
 use Rattle.urb_node.specs.declared.answer.Answer.TheVariants.{Accepted}
 use Rattle.urb_node.specs.Steps.{doubt}
-use Rattle.urb_group.proofs.safety.RunsOfKeptWorlds.{kept-grow}
+use Rattle.urb_world.proofs.safety.RunsOfKeptWorlds.{kept-grow}
 use Rattle.urb_group.proofs.shown.AgreeingWorlds.{sound-kept}
-use Rattle.urb_group.proofs.steps.Growth.{begins-itself, begins-push, begins-trans, pair-begins}
-use Rattle.urb_group.proofs.steps.Growth.{run-goes_on}
-use Rattle.urb_group.proofs.steps.Runs.{fitting-kept, run-kept}
-use Rattle.urb_group.proofs.stops.StoppedWorlds.{goes-on-under}
-use Rattle.urb_group.specs.Acceptance.{HasStored}
+use Rattle.urb_world.proofs.steps.Growth.{begins-itself, begins-push, begins-trans, pair-begins}
+use Rattle.urb_world.proofs.steps.Growth.{run-goes_on}
+use Rattle.urb_world.proofs.steps.Runs.{fitting-kept, run-kept}
+use Rattle.urb_world.proofs.safety.AgreeingLogs.{entries-begin}
+use Rattle.urb_world.proofs.safety.SafeWorlds.{safe}
+use Rattle.urb_world.proofs.stops.StoppedWorlds.{goes-on-under}
+use Rattle.urb_group.proofs.stops.StoredWorlds.{stored-begins, stored-kept}
+use Rattle.urb_world.specs.Acceptance.{HasStored}
 use Rattle.urb_group.specs.GroupViews.{GroupView, IsSound, Shows}
-use Rattle.urb_group.specs.ProcessStops.{GoesOnUnder, MayLeave}
-use Rattle.urb_group.specs.RecoveryPlans.{after}
-use Rattle.urb_group.specs.RunInvariant.{IsKept}
-use Rattle.urb_group.specs.Step.{Submit, run, step}
-use Rattle.urb_group.specs.World.{World, image_of, opened, stored}
-use Rattle.urb_daemon.specs.Lives.{Lives, OpensAfter, Runs, Starts, Stays}
+use Rattle.urb_world.specs.ProcessStops.{GoesOnUnder, MayLeave}
+use Rattle.urb_world.specs.RecoveryPlans.{after}
+use Rattle.urb_world.specs.RunInvariant.{IsKept}
+use Rattle.urb_world.specs.Step.{Submit, run, step}
+use Rattle.urb_world.specs.World.{World, image_of, opened, stored}
+use Rattle.urb_daemon.specs.Lives.{Lives, OpensAfter, Runs, Starts, Stays, Stores}
 
 -- a group that was opened after a stop goes on from the world before it
-kept-goes-on : (v : World) (size : Limits) (images : List (List Entry)) (group : GroupView)
+pub kept-goes-on : (v : World) (size : Limits) (images : List (List Entry)) (group : GroupView)
     → IsKept v → OpensAfter v size images group → GoesOnUnder size v (image_of images)
 kept-goes-on v size images group kept h =
     goes-on-under v kept size h.nodes (image_of images) h.left
     (fitting-kept size images h.one_each h.fits)
 
--- the same, if a sound group showed the world before the stop
-pub opened-goes-on : (old : GroupView) (v : World) (size : Limits) (images : List (List Entry))
-    (group : GroupView) → IsSound old → Shows old v → OpensAfter v size images group
-    → GoesOnUnder size v (image_of images)
-opened-goes-on old v size images group sound shows h =
-    kept-goes-on v size images group (sound-kept old v sound shows) h
-
 -- each world of a life keeps the rules
 pub lives-kept : (w v : World) → Lives w v → IsKept w → IsKept v
 lives-kept w _ Stays kept = kept
 lives-kept w _ (Runs v events l) kept = run-kept v events (lives-kept w v l kept)
+lives-kept w _ (Stores v u l is) kept = stored-kept v u is (lives-kept w v l kept)
 lives-kept w _ (Starts v size images group l h) kept =
     sound-kept group (opened size (image_of images)) h.sound h.shows
 
@@ -57,6 +54,11 @@ lives-shown w _ (Runs v events l) kept p =
     begins-trans (entries (stored w p)) (entries (stored v p))
     (entries (stored (after v events) p)) (lives-shown w v l kept p)
     (kept-grow v (after v events) events (run v events).0 (lives-kept w v l kept) refl p)
+lives-shown w _ (Stores v u l is) kept p =
+    begins-trans (entries (stored w p)) (entries (stored v p)) (entries (stored u p))
+    (lives-shown w v l kept p)
+    (entries-begin v (safe v (lives-kept w v l kept).nodes) p (stored u p)
+    (stored-begins v u is p))
 lives-shown w _ (Starts v size images group l h) kept p =
     begins-trans (entries (stored w p)) (entries (stored v p)) (entries (image_of images p))
     (lives-shown w v l kept p)
@@ -84,6 +86,9 @@ lives-stored w _ (Runs v events l) p x m h =
       pair-begins (stored v p) (stored (after v events) p)
           ((run-goes_on v (after v events) events (run v events).0 refl).records p) x m was.1,
     )
+lives-stored w _ (Stores v u l is) p x m h =
+    let was = lives-stored w v l p x m h in
+    (was.0, pair-begins (stored v p) (stored u p) (stored-begins v u is p) x m was.1)
 lives-stored w _ (Starts v size images group l h) p x m has =
     let was = lives-stored w v l p x m has in (
       was.0,

@@ -1,6 +1,6 @@
 -- A run over files that a stop had left resumes from the world before the stop.
 use Rattle.std.proofs.Common.{Bool, List, None, Ok, Result, Some, [], ap, arith, inl, inr, subst}
-use Rattle.std.proofs.Common.{suc, zero, ℕ, ◌<◌, ◌∙◌, ◌∷◌, ◌≡◌, ◌≤◌}
+use Rattle.std.proofs.Common.{suc, sym, zero, ℕ, ◌<◌, ◌∙◌, ◌∷◌, ◌≡◌, ◌≤◌}
 use Rattle.std.proofs.lemmas.List.Elements.{recursion_from_All}
 use Rattle.std.specs.List.{All, AllByRecursion}
 use Rattle.std.specs.Prelude.{length, slice_get}
@@ -10,19 +10,22 @@ use Rattle.urb_stable.specs.StableStorage.{IsContents}
 use Rattle.urb_stable.specs.declared.stable.Stable.{Ghosts}
 use Rattle.urb_group.proofs.stops.OpenedClusters.{given-count}
 use Rattle.urb_group.proofs.stops.SecuredClusters.{read-honest}
+use Rattle.urb_group.proofs.shown.AgreeingWorlds.{sound-kept}
 use Rattle.urb_group.proofs.stops.StockedPlays.{chosen-left}
+use Rattle.urb_group.proofs.stops.StoredWorlds.{outside-stored, stored-kept}
 use Rattle.urb_group.specs.GroupCalls.{Opens}
 use Rattle.urb_group.specs.GroupViews.{GroupView, IsSound, Shows}
-use Rattle.urb_group.specs.StoreContents.{AreChosen, IsKnown, WouldLeave}
+use Rattle.urb_group.specs.StoreContents.{AreChosen, IsKnown, WouldLeave, WouldLeaveAhead}
 use Rattle.urb_group.specs.StoreOpenings.{AllGive, HasStopped}
-use Rattle.urb_group.specs.World.{World}
+use Rattle.urb_world.specs.StoresAhead.{IsAsStored}
+use Rattle.urb_world.specs.World.{World}
 use Rattle.sqlite.specs.Files.{HoldsDatabase}
 use Rattle.sqlite_trees.specs.Tree.{Trees}
 use Rattle.sqlite_wal.specs.Recovery.{Image}
 use Rattle.urb_sqlite.specs.FoundJournals.{AreFoundIn, HoldsRecords}
-use Rattle.urb_folder.proofs.StoppedFiles.{known_files, left_files, stopped_files}
+use Rattle.urb_folder.proofs.StoppedFiles.{ahead_files, known_files, left_files, stopped_files}
 use Rattle.urb_folder.specs.StoppedFiles.{HasLeft, HoldsStopped}
-use Rattle.urb_daemon.proofs.Lives.{opened-goes-on}
+use Rattle.urb_daemon.proofs.Lives.{kept-goes-on}
 use Rattle.urb_daemon.specs.Lives.{OpensAfter}
 use Rattle.urb_daemon.specs.declared.serve_fault.ServeFault.{ServeFault}
 use Rattle.urb_daemon.specs.RunsAfterStop.{EndsAfterStop, Resumes}
@@ -58,7 +61,9 @@ opens-given g old w size stores images asked group stopped count given known ope
       nodes = more;
       one_each = chosen.one_each ∙ count;
       left =
-          chosen-left g old w stores images stopped.shows stopped.holds
+          chosen-left g old w stores images
+          (outside-stored old stopped.shown w stopped.shows stopped.counted stopped.stands)
+          stopped.holds
           (omega (arith, count, stopped.counted, stopped.nodes)) chosen;
       fits = opens.0;
       sound = sound;
@@ -67,7 +72,8 @@ opens-given g old w size stores images asked group stopped count given known ope
   where
     more : w.size.n ≤ size.n
     more =
-        let same = ap (λ (l : Limits). l.n) stopped.shows.size in
+        let same =
+        ap (λ (l : Limits). l.n) (stopped.shows.size ∙ sym stopped.stands.size) in
         omega (arith, same, stopped.nodes)
 
     chosen : AreChosen g stores images
@@ -99,7 +105,9 @@ resumes g old w size stores told end lasts count stopped known (inr e) =
       asked = e.asked;
       opens = e.opens;
       after = after;
-      goes_on = λ clean. opened-goes-on old w size e.opens.images e.group stopped.sound stopped.shows
+      goes_on = λ clean. kept-goes-on w size e.opens.images e.group
+          (stored-kept stopped.shown w stopped.stands
+          (sound-kept old stopped.shown stopped.sound stopped.shows))
           (after clean);
       served = e.served;
       leaves = e.leaves known;
@@ -141,4 +149,22 @@ pub left_over : {S A : Type 0} (g : Ghosts S A) (w : World) (journals : List S)
 left_over g w journals would may_leave leaves held old size sound counted nodes shows places stopped
     none =
     left_files g may_leave leaves held old w size journals sound counted nodes shows places would
+    stopped none
+
+-- files in which a stop left what it may leave of the nodes as their stores have them
+pub ahead_over : {S A : Type 0} (g : Ghosts S A) (w : World) (journals : List S)
+    → WouldLeaveAhead g w journals → (may_leave : S → Trees → Type 0)
+    → ((j : S) (P : List Entry → Type 0) → g.leaves_only j P → (image : Image) (db : Trees)
+    → may_leave j db → HoldsDatabase image db
+    → (records : List Entry) × P records × HoldsRecords image records)
+    → (held : ℕ → Image) (old : GroupView) (size : Limits)
+    → IsSound old → length old.nodes ≡ old.size.n → old.size.n ≤ size.n → Shows old w
+    → length old.nodes ≤ length journals
+    → ((i : ℕ) (j : S) → slice_get journals i ≡ Some j
+    → HoldsStopped (g.is_clean j) (may_leave j) (held (suc i)))
+    → ((i : ℕ) → length journals ≤ i → i < size.n → HoldsRecords (held (suc i)) [])
+    → (v : World) × IsAsStored w v × HasLeft held old v size
+ahead_over g w journals would may_leave leaves held old size sound counted nodes shows places
+    stopped none =
+    ahead_files g may_leave leaves held old w size journals sound counted nodes shows places would
     stopped none

@@ -13,7 +13,7 @@ use Rattle.urb_group.proofs.stops.StockedPlays.{all-at}
 use Rattle.urb_group.specs.StoreContents.{IsKnown, IsLasting, IsSecured, IsStoreOf}
 use Rattle.urb_group.specs.StoreOpenings.{HasStopped}
 use Rattle.urb_group.specs.GroupViews.{GroupView, IsSound}
-use Rattle.urb_group.specs.World.{World, image_of, opened}
+use Rattle.urb_world.specs.World.{World, image_of, opened}
 use Rattle.urb_daemon.specs.declared.serve_fault.ServeFault.{ServeFault}
 use Rattle.urb_daemon.specs.declared.serve_fault.ServeFault.TheVariants.{Network, Unopened}
 use Rattle.urb_daemon.specs.declared.network_fault.NetworkFault.{NetworkFault}

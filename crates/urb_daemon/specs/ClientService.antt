@@ -1,9 +1,9 @@
 -- The limits of the clients of a group, from its options.
 use Rattle.std.specs.Prelude.{◌≡◌, ◌≤◌, ℕ}
 use Rattle.urb_cli.specs.declared.command_line.service.ServiceOptions.{ServiceOptions}
-use Rattle.urb_worker.specs.ClientLimits.{limits_of_clients}
-use Rattle.urb_worker.specs.declared.connections.ClientLimits.{ClientLimits}
-use Rattle.urb_worker.specs.declared.connections.TheConstants.{LEAST_CONNECTIONS}
+use Rattle.urb_desk.specs.ClientLimits.{limits_of_clients}
+use Rattle.urb_desk.specs.declared.connections.ClientLimits.{ClientLimits}
+use Rattle.urb_desk.specs.declared.connections.TheConstants.{LEAST_CONNECTIONS}
 
 -- the limits that these options ask for, with so many connections
 abbrev pub limits_asked : ServiceOptions → ℕ → ClientLimits

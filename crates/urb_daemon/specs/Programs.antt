@@ -6,7 +6,7 @@ use Rattle.urb_names.specs.LabelsAndContents.{Limits}
 use Rattle.urb_stable.specs.declared.stable.Stable.{Ghosts}
 use Rattle.urb_group.specs.StoreOpenings.{HasStopped}
 use Rattle.urb_group.specs.GroupViews.{GroupView}
-use Rattle.urb_group.specs.World.{World}
+use Rattle.urb_world.specs.World.{World}
 use Rattle.urb_sqlite.specs.FoundJournals.{AreFoundIn}
 use Rattle.urb_cli.specs.CommandLine.{urbd_app}
 use Rattle.urb_cli.specs.Statuses.{IsErrandsEnd}

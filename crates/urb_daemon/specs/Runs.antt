@@ -9,11 +9,11 @@ use Rattle.urb_stable.specs.declared.stable.Stable.{Ghosts}
 use Rattle.urb_stable.specs.declared.stable.StoreFault.{StoreFault}
 use Rattle.urb_group.specs.StoreQuestions.{Gives}
 use Rattle.urb_group.specs.GroupViews.{GroupView}
-use Rattle.urb_group.specs.RecoveryPlans.{after}
-use Rattle.urb_group.specs.Step.{Event}
+use Rattle.urb_world.specs.RecoveryPlans.{after}
+use Rattle.urb_world.specs.Step.{Event}
 use Rattle.urb_group.specs.StoreContents.{IsKnown, WouldLeave}
 use Rattle.urb_group.specs.StoreOpenings.{HasStopped}
-use Rattle.urb_group.specs.World.{World, image_of, opened}
+use Rattle.urb_world.specs.World.{World, image_of, opened}
 use Rattle.urb_show.specs.Pasts.{IsLedTo}
 use Rattle.urb_worker.specs.ServedStores.{AreServed, numbers_from}
 use Rattle.urb_cli.specs.declared.command_line.options.ServeOptions.{ServeOptions}
@@ -83,8 +83,9 @@ module _ {S A : Type 0} (g : Ghosts S A) where
     pub opens : OpensTogether g size stores (Err why) lasts
     pub ends : end ≡ Err (Unopened why)
 
-  -- The group was opened from what these stores gave, and they served it until the run ended. If each
-  -- was honest or shut by a failure, they stop after the world that was opened from that.
+  -- The group was opened from the records that these stores gave, and they served it until the run
+  -- ended. If each was honest or shut by a failure, they hold what a stop leaves of a world that
+  -- follows the opened one.
   pub record EndsOpened (size : Limits) (stores : List S) (told : Bool) (end : Result ℕ ServeFault)
       (lasts : List S) : Type 0 where
     pub group : GroupView

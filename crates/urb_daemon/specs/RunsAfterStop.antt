@@ -8,9 +8,9 @@ use Rattle.urb_stable.specs.declared.stable.Stable.{Ghosts}
 use Rattle.urb_group.specs.StoreContents.{IsKnown}
 use Rattle.urb_group.specs.StoreOpenings.{ContinuesFrom, HasStopped}
 use Rattle.urb_group.specs.GroupViews.{GroupView, IsSound}
-use Rattle.urb_group.specs.ProcessStops.{GoesOnUnder}
-use Rattle.urb_group.specs.StartLimits.{MayStartWith}
-use Rattle.urb_group.specs.World.{World, image_of, opened}
+use Rattle.urb_world.specs.ProcessStops.{GoesOnUnder}
+use Rattle.urb_world.specs.StartLimits.{MayStartWith}
+use Rattle.urb_world.specs.World.{World, image_of, opened}
 use Rattle.urb_daemon.specs.declared.serve_fault.ServeFault.{ServeFault}
 use Rattle.urb_daemon.specs.declared.serve_fault.ServeFault.TheVariants.{Unopened}
 use Rattle.urb_folder.specs.GroupsAfterStop.{AreIntact, ContinuesTogether}

@@ -6,7 +6,8 @@ ghost use Rattle.urb_daemon.specs.internal.Openings.{open_line};
 
 use std::io;
 use std::io::{ErrorKind, Read, Write};
-use urb_worker::{Station, Watch};
+use urb_link::Station;
+use urb_worker::Watch;
 
 /// Says once that the group runs, and watches until the input ends. If it can't say so, it doesn't
 /// wait.

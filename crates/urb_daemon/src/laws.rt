@@ -11,11 +11,12 @@ ghost use Rattle.urb_node.specs.Replies.{Same};
 ghost use Rattle.urb_node.specs.declared.answer.Answer.TheVariants.{Accepted};
 ghost use Rattle.urb_stable.specs.DeliveredLogs.{entries};
 ghost use Rattle.urb_stable.specs.Entries.{Entry};
-ghost use Rattle.urb_group.specs.Acceptance.{HasStored};
+ghost use Rattle.urb_world.specs.Acceptance.{HasStored};
 ghost use Rattle.urb_group.specs.GroupViews.{GroupView, IsSound, Shows};
-ghost use Rattle.urb_group.specs.Step.{Submit, step};
-ghost use Rattle.urb_group.specs.StoreContents.{WouldLeave};
-ghost use Rattle.urb_group.specs.World.{World, image_of, opened, started, stored};
+ghost use Rattle.urb_world.specs.Step.{Submit, step};
+ghost use Rattle.urb_group.specs.StoreContents.{WouldLeave, WouldLeaveAhead};
+ghost use Rattle.urb_world.specs.StoresAhead.{IsAsStored};
+ghost use Rattle.urb_world.specs.World.{World, image_of, opened, started, stored};
 ghost use Rattle.urb_sqlite.specs.FoundJournals.{HoldsRecords};
 ghost use Rattle.urb_folder.specs.StoppedFiles.{HasLeft, HoldsStopped};
 ghost use Rattle.urb_daemon.specs.Lives.{Lives, OpensAfter};
@@ -60,4 +61,18 @@ pub fn a_stop_leaves_what_the_next_start_takes<D: NodeDisk>(journals: &[Journal<
         (file_state j.journal.conn).may_leave (held (suc i))) →
         ((i : ℕ) → length journals.now ≤ i → i < size.n → HoldsRecords (held (suc i)) []) →
         HasLeft held old w size }
+{}
+
+/// The same, if a worker had stored records ahead of their events when the process stopped. The next
+/// start takes the world as its stores have it: each node's records, followed by those ahead.
+pub fn a_stop_ahead_leaves_what_the_next_start_takes<D: NodeDisk>(journals: &[Journal<D>])
+    ensures { (held : ℕ → Image) (old : GroupView) (w : World) (size : Limits) →
+        IsSound old → length old.nodes ≡ old.size.n → old.size.n ≤ size.n → Shows old w →
+        length old.nodes ≤ length journals.now →
+        WouldLeaveAhead ⟦<Journal<D> as Stable>⟧ w journals.now →
+        ((i : ℕ) (j : _) → slice_get journals.now i ≡ Some j →
+        HoldsStopped (⟦<Journal<D> as Stable>⟧.is_clean j)
+        (file_state j.journal.conn).may_leave (held (suc i))) →
+        ((i : ℕ) → length journals.now ≤ i → i < size.n → HoldsRecords (held (suc i)) []) →
+        (v : World) × IsAsStored w v × HasLeft held old v size }
 {}

@@ -8,7 +8,7 @@ use crate::socket_fault::SocketCause;
 use std::alloc::AllocError;
 use std::io::ErrorKind;
 use thiserror::Error;
-use urb_worker::LEAST_CONNECTIONS;
+use urb_desk::LEAST_CONNECTIONS;
 
 /// How many descriptors a group needs besides those of its nodes: three standard streams, the
 /// socket that sends, one for a stop, and one while a start counts the others.

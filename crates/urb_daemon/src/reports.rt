@@ -1,7 +1,7 @@
 //! What operators read about a running group.
 
 use urb_names::{NodeId, Refusal};
-use urb_worker::{Change, Reporter};
+use urb_turn::{Change, Reporter};
 
 /// Reports each node that goes down or comes back, in a line of its own. A line that can't be
 /// written is lost. A worker calls it, so the output should be one that never waits.

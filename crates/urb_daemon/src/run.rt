@@ -4,7 +4,7 @@ ghost use Rattle.std.specs.Prelude.{◌≡◌, IfSome, OnOk, vec_len};
 ghost use Rattle.std.specs.Io.KnownBytes.{Appends};
 ghost use Rattle.urb_group.specs.StoreOpenings.{HasStopped};
 ghost use Rattle.urb_group.specs.GroupViews.{GroupView};
-ghost use Rattle.urb_group.specs.World.{World};
+ghost use Rattle.urb_world.specs.World.{World};
 ghost use Rattle.urb_daemon.specs.Endings.{ShowsEnd, closed_line};
 ghost use Rattle.urb_daemon.specs.RunsAfterStop.{EndsAfterStop};
 ghost use Rattle.urb_daemon.specs.Runs.{ComeBack, EndsFrom, HaveServed, limits_of};
@@ -29,7 +29,8 @@ use urb_cli::{Fault, ServeOptions, report_fault};
 use urb_folder::{Journal, open_group};
 use urb_group::{Group, Stable};
 use urb_show::House;
-use urb_worker::{GroupSetting, Reporter, Watch, run_group};
+use urb_turn::Reporter;
+use urb_worker::{GroupSetting, Watch, run_group};
 
 /// What the daemon needs of the runtime: threads, waiting, the clock, and files for Unix sockets.
 /// Functions that use sockets ask for `Net` as well, because they have to name the types of its

@@ -5,7 +5,7 @@ ghost use Rattle.std.specs.Prelude.{◌⊎◌, ◌&&◌, None, is_some, MatchOpt
 ghost use Rattle.std.specs.Prelude.{map, vec_len};
 ghost use Rattle.urb_cli.specs.declared.limits.TheConstants.{MAX_BASE_PORT};
 ghost use Rattle.urb_names.specs.declared.limits.TheConstants.{MAX_NODES};
-ghost use Rattle.urb_worker.specs.declared.connections.TheConstants.{LEAST_CONNECTIONS};
+ghost use Rattle.urb_desk.specs.declared.connections.TheConstants.{LEAST_CONNECTIONS};
 ghost use Rattle.urb_daemon.specs.ClientService.{FitService, limits_asked};
 ghost use Rattle.urb_daemon.specs.Doors.{HasDoors, HaveDoors};
 
@@ -20,16 +20,15 @@ use urb_cli::{
     CLIENT_PORT_OFFSET, DoorOptions, MAX_CONNECTIONS, MIN_CONNECTIONS, STANDARD_IDLE_MINUTES,
     ServeOptions, ServiceOptions,
 };
-use urb_worker::{
-    ClientLimits, IDLE_MINUTES, LEAST_CONNECTIONS, MOST_CONNECTIONS, Station, UdpLink,
-};
+use urb_desk::{ClientLimits, IDLE_MINUTES, LEAST_CONNECTIONS, MOST_CONNECTIONS};
+use urb_link::{Station, UdpLink};
 
 // The range of the option is that of the nodes.
 const _: () = prove!(MIN_CONNECTIONS as usize == LEAST_CONNECTIONS);
 
 const _: () = prove!(MAX_CONNECTIONS as usize == MOST_CONNECTIONS);
 
-// What holds without the option is what holds for a node of which nothing else is said.
+// A node that nobody configured waits as long as the option's standard value says.
 const _: () = prove!(STANDARD_IDLE_MINUTES as u32 == IDLE_MINUTES);
 
 /// What connects the nodes of a group with each other and with their clients.

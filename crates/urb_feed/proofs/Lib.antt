@@ -5,7 +5,7 @@
 -- sender in a log by the last of them (`last_number`).
 -- Then read how two numbers say which names of a sender a node lacks (`row_by_count`,
 -- `row_by_log`). From these, the numbers of which a node needs nothing are skipped (`skips`).
--- Portions puts all together (`is_portion`). The safety of worlds, which `urb_group` proves, gives
+-- Portions puts all together (`is_portion`). The safety of worlds, which `urb_world` proves, gives
 -- the order of the names in a log.
 pub mod Deliveries
 pub mod GreatestValues

@@ -8,9 +8,9 @@ use Rattle.urb_feed.proofs.Deliveries.{has_by_number}
 use Rattle.urb_feed.proofs.LackConditions.{neither, sent, unsent}
 use Rattle.urb_feed.specs.internal.SenderRows.{IsRow}
 use Rattle.urb_group.specs.GroupCalls.{TellsLog}
-use Rattle.urb_group.specs.SafetyProperties.{Safe}
+use Rattle.urb_world.specs.SafetyProperties.{Safe}
 use Rattle.urb_group.specs.GroupViews.{GroupView, IsSound, Shows}
-use Rattle.urb_group.specs.World.{World, stored}
+use Rattle.urb_world.specs.World.{World, stored}
 use Rattle.urb_names.specs.Names.{has_name, name, names}
 use Rattle.urb_names.specs.LabelsAndContents.{Label, Limits}
 use Rattle.urb_names.specs.Nodes.{is_node}

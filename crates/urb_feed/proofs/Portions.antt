@@ -9,7 +9,7 @@ use Rattle.urb_feed.specs.MissingNames.{carrying, lacks, needed, needed_from, ne
 use Rattle.urb_feed.specs.declared.feed.TheConstants.{MOST_PACKETS, PORTION}
 use Rattle.urb_feed.specs.internal.SenderRows.{HasWorld, LacksNoneUpTo}
 use Rattle.urb_group.specs.GroupViews.{GroupView, Shows}
-use Rattle.urb_group.specs.World.{World, stored}
+use Rattle.urb_world.specs.World.{World, stored}
 use Rattle.urb_names.specs.CarriedPackets.{Carried}
 use Rattle.urb_names.specs.Names.{name}
 use Rattle.urb_names.specs.LabelsAndContents.{Content, Label}

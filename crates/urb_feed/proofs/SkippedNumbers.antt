@@ -8,7 +8,7 @@ use Rattle.urb_feed.proofs.LackConditions.{skipped}
 use Rattle.urb_feed.specs.MissingNames.{lacks, needed, needed_from, needed_of, offers}
 use Rattle.urb_feed.specs.internal.SenderRows.{IsRow, LacksNoneBelow, LacksNoneUpTo}
 use Rattle.urb_group.specs.GroupViews.{GroupView, Shows}
-use Rattle.urb_group.specs.World.{World}
+use Rattle.urb_world.specs.World.{World}
 use Rattle.urb_names.specs.Names.{name}
 use Rattle.urb_names.specs.LabelsAndContents.{Limits}
 use Rattle.urb_names.specs.Nodes.{is_node}

@@ -3,7 +3,7 @@ use Rattle.std.specs.Prelude.{List, [], length, max, suc, ℕ, ◌-◌, ◌<◌,
 use Rattle.urb_feed.specs.MissingNames.{needed_from}
 use Rattle.urb_feed.specs.declared.feed.TheConstants.{MOST_PACKETS}
 use Rattle.urb_group.specs.GroupViews.{GroupView, Shows}
-use Rattle.urb_group.specs.World.{World}
+use Rattle.urb_world.specs.World.{World}
 use Rattle.urb_names.specs.CarriedPackets.{Carried}
 use Rattle.urb_names.specs.Nodes.{nodes}
 

@@ -1,7 +1,7 @@
 -- What a node's log lacks, and the packets that bring it.
 use Rattle.std.specs.Prelude.{Bool, List, None, Option, Some, [], false, flat_map, if◌then◌else◌, length}
 use Rattle.std.specs.Prelude.{nat_le, nat_lt, not, ℕ, ◌&&◌, ◌==◌, ◌∷◌}
-use Rattle.urb_group.specs.World.{World, stored}
+use Rattle.urb_world.specs.World.{World, stored}
 use Rattle.urb_names.specs.CarriedPackets.{Carried}
 use Rattle.urb_names.specs.Names.{has_name, name}
 use Rattle.urb_names.specs.LabelsAndContents.{Content, Label}

@@ -2,7 +2,7 @@
 
 ghost use Rattle.std.specs.Prelude.{◌≡◌, ◌≤◌, ◌==◌, ◌-◌, ◌<◌, IfOk, OnErr, suc};
 ghost use Rattle.urb_group.specs.GroupViews.{Shows};
-ghost use Rattle.urb_group.specs.World.{World};
+ghost use Rattle.urb_world.specs.World.{World};
 ghost use Rattle.urb_feed.specs.Feeds.{IsPortion, most_broadcast, whole_feed};
 ghost use Rattle.urb_feed.specs.MissingNames.{needed_from};
 ghost use Rattle.urb_feed.specs.internal.SenderRows.{HasWorld, IsRow, LacksNoneUpTo};

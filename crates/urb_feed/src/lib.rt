@@ -18,7 +18,7 @@
 //! of. One feed of each node is enough: a name's sender has stored it, and each node that stores a
 //! fed message sends it to all others. No portion copies a payload. A feed never changes a group,
 //! never waits, and claims no certificate: an arrival may come at any time, so the laws of
-//! `urb_group` hold of a fed group too.
+//! `urb_world` hold of a fed group too.
 #![tactic(auto)]
 
 mod delivered;

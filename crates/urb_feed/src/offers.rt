@@ -2,7 +2,7 @@
 
 ghost use Rattle.std.specs.Prelude.{◌≡◌, ◌≤◌, ◌-◌, ◌++◌, OnOk, suc};
 ghost use Rattle.urb_group.specs.GroupViews.{Shows};
-ghost use Rattle.urb_group.specs.World.{World};
+ghost use Rattle.urb_world.specs.World.{World};
 ghost use Rattle.urb_feed.specs.MissingNames.{needed_of, offer, offers};
 ghost use Rattle.urb_feed.specs.internal.SenderRows.{IsRow};
 

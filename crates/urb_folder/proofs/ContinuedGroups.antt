@@ -30,7 +30,7 @@ use Rattle.urb_group.specs.StoreOpenings.{AllGive, HasStopped}
 use Rattle.urb_group.specs.GroupViews.{GroupView}
 use Rattle.urb_group.specs.StoreContents.{AllHold, HoldsOf, IsKnown, IsSecured, IsStocked, RestLeaves}
 use Rattle.urb_group.specs.StoreContents.{StopLeaves}
-use Rattle.urb_group.specs.World.{World}
+use Rattle.urb_world.specs.World.{World}
 use Rattle.urb_folder.specs.GroupsAfterStop.{AreIntact, ContinuesTogether, beside_stores}
 use Rattle.urb_folder.specs.AskedStores.{AllAnswer, AreRefusedTogether, OpensTogether}
 use Rattle.urb_folder.specs.internal.RetrievedImages.{RetrievesTogether}
@@ -269,7 +269,9 @@ goes-on-together g size stores (Err why) asked (inl h) count old w stopped = (
     sound = stopped.sound;
     counted = stopped.counted;
     nodes = stopped.nodes;
+    shown = stopped.shown;
     shows = stopped.shows;
+    stands = stopped.stands;
     holds = refused-held g w stores why asked.items h stopped.holds;
   },
   λ may. refused-so g stores why asked.items h,

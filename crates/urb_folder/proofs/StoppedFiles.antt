@@ -1,6 +1,6 @@
 -- Journals that were opened in the files that a stop had left.
-use Rattle.std.proofs.Common.{List, None, Option, Some, [], arith, inl, length, subst}
-use Rattle.std.proofs.Common.{suc, sym, ⊎_elim, ℕ, ◌<◌, ◌∙◌, ◌≡◌, ◌≤◌}
+use Rattle.std.proofs.Common.{List, None, Option, Some, [], arith, inl, inr, length, refl, subst}
+use Rattle.std.proofs.Common.{suc, sym, zero, ⊎_elim, ℕ, ◌++◌, ◌<◌, ◌∙◌, ◌≡◌, ◌≤◌, ◌⊎◌}
 use Rattle.std.specs.List.{All}
 use Rattle.std.specs.Prelude.{slice_get}
 use Rattle.std.proofs.lemmas.Bool.{cases_lt}
@@ -13,17 +13,23 @@ use Rattle.urb_names.proofs.Places.{get_some}
 use Rattle.urb_names.specs.LabelsAndContents.{Limits}
 use Rattle.urb_stable.specs.Entries.{Entry}
 use Rattle.urb_stable.specs.StableStorage.{IsContents}
+use Rattle.urb_stable.specs.StoredTogether.{IsContentsOrAll}
+use Rattle.urb_node.specs.Part.{Node, opened_node}
+use Rattle.urb_node.specs.Steps.{doubt}
 use Rattle.urb_stable.specs.declared.stable.Stable.{Ghosts}
 use Rattle.urb_node.specs.NodeViews.{no_view}
 use Rattle.urb_group.specs.GroupViews.{GroupView, IsSound, Shows, view_of}
-use Rattle.urb_group.specs.ProcessStops.{MayLeave}
-use Rattle.urb_group.specs.StoreContents.{IsKnown, WouldLeave}
+use Rattle.urb_world.specs.ProcessStops.{MayLeave}
+use Rattle.urb_group.specs.StoreContents.{IsKnown, LeavesAhead, LeavesTogether, WouldLeave}
+use Rattle.urb_group.specs.StoreContents.{WouldLeaveAhead}
+use Rattle.urb_world.specs.StoresAhead.{IsAsStored, IsOrStandsFor}
 use Rattle.urb_group.specs.StoreOpenings.{HasStopped}
-use Rattle.urb_group.specs.World.{World}
+use Rattle.urb_world.specs.World.{World, stored}
 use Rattle.urb_sqlite.proofs.FoundRecords.{found_as_held}
 use Rattle.urb_sqlite.specs.FoundJournals.{AreFoundIn, HoldsRecords}
 use Rattle.urb_folder.specs.StoppedFiles.{HasLeft, HoldsNode, HoldsStopped}
 use Rattle.urb_group.proofs.stops.StockedPlays.{no-place}
+use Rattle.urb_group.proofs.stops.StoredWorlds.{as-itself, certain-contents}
 
 -- The journals' storages are clean while they are honest, and no record is in doubt.
 module _ {S A : Type 0} (g : Ghosts S A) (cleans : (j : S) → g.is_honest j → g.is_clean j)
@@ -51,7 +57,9 @@ module _ {S A : Type 0} (g : Ghosts S A) (cleans : (j : S) → g.is_honest j →
         sound = left.sound;
         counted = left.counted;
         nodes = left.nodes;
+        shown = left.shown;
         shows = left.shows;
+        stands = left.stands;
         holds = λ i journal got honest records contents.
             (let it = one i journal got (cleans journal honest) in
             let certain : records ≡ g.certain journal =
@@ -85,7 +93,15 @@ pub left_files : {S A : Type 0} (g : Ghosts S A) (may_leave : S → Trees → Ty
     → HasLeft held old w limits
 left_files {S} g may_leave leaves held old w limits journals sound counted nodes shows places would
     stopped none =
-    record { sound = sound; counted = counted; nodes = nodes; shows = shows; holds = holds }
+    record {
+      sound = sound;
+      counted = counted;
+      nodes = nodes;
+      shown = w;
+      shows = shows;
+      stands = as-itself w;
+      holds = holds;
+    }
   where
     holds : (i : ℕ) → i < limits.n → HoldsNode (held (suc i)) (w.node (suc i))
     holds i low = ⊎_elim within past (cases_lt i (length journals))
@@ -105,3 +121,113 @@ left_files {S} g may_leave leaves held old w limits journals sound counted nodes
             let beyond : length old.nodes ≤ i = omega (arith, places, more) in
             let view : view_of old (suc i) ≡ no_view = get_or_past old.nodes i no_view beyond in
             ([], no-place old w (suc i) shows view, none i more low)
+
+-- ---- the files that a stop left of stores that hold records ahead
+
+-- Each file holds what a stop may leave of its node as its store has it.
+pub ahead_files : {S A : Type 0} (g : Ghosts S A) (may_leave : S → Trees → Type 0)
+    (leaves : (j : S) (P : List Entry → Type 0) → g.leaves_only j P → (image : Image) (db : Trees)
+    → may_leave j db → HoldsDatabase image db
+    → (records : List Entry) × P records × HoldsRecords image records)
+    (held : ℕ → Image) (old : GroupView) (w : World) (limits : Limits) (journals : List S)
+    → IsSound old → length old.nodes ≡ old.size.n → old.size.n ≤ limits.n → Shows old w
+    → length old.nodes ≤ length journals → WouldLeaveAhead g w journals
+    → ((i : ℕ) (j : S) → slice_get journals i ≡ Some j
+    → HoldsStopped (g.is_clean j) (may_leave j) (held (suc i)))
+    → ((i : ℕ) → length journals ≤ i → i < limits.n → HoldsRecords (held (suc i)) [])
+    → (v : World) × IsAsStored w v × HasLeft held old v limits
+ahead_files {S} g may_leave leaves held old w limits journals sound counted nodes shows places would
+    stopped none = (
+      v,
+      stands,
+      record {
+        sound = sound;
+        counted = counted;
+        nodes = nodes;
+        shown = w;
+        shows = shows;
+        stands = stands;
+        holds = λ i low. picked i (cases_lt i limits.n) low;
+      },
+    )
+  where
+    -- a node whose file this is
+    Found : ℕ → Type 0
+    Found i = (node : Node) × IsOrStandsFor w (suc i) node × HoldsNode (held (suc i)) node
+
+    together : (i : ℕ) (j : S) → HoldsStopped (g.is_clean j) (may_leave j) (held (suc i))
+        → LeavesTogether g w (suc i) j → Found i
+    together i j it of =
+        let has =
+        leaves j (IsContentsOrAll of.tail (stored w (suc i)) None) of.only (held (suc i)) it.db
+        it.may it.holds in
+        ⊎_elim (λ same. (
+          w.node (suc i),
+          inl refl,
+          (
+            has.0,
+            certain-contents (stored w (suc i)) (doubt (w.node (suc i)).state) has.0 same,
+            has.2,
+          ),
+        ))
+        (λ all. (
+          opened_node (suc i) (stored w (suc i) ++ of.tail),
+          inr (record {
+            is = of.is;
+            tail = of.tail;
+            may = of.may;
+            short = of.short;
+            opened = refl;
+          }),
+          (has.0, all, has.2),
+        )) has.1
+
+    one : (i : ℕ) (j : S) → HoldsStopped (g.is_clean j) (may_leave j) (held (suc i))
+        → LeavesAhead g w (suc i) j → Found i
+    one i j it (inl of) = together i j it of
+    one i j it (inr (node, is, of)) =
+        let has =
+        leaves j (IsContents of.certain of.doubtful) of.only (held (suc i)) it.db it.may it.holds in
+        (node, is, (has.0, of.may has.0 has.1, has.2))
+
+    found : (i : ℕ) → i < limits.n → Found i
+    found i low = ⊎_elim within past (cases_lt i (length journals))
+      where
+        within : i < length journals → Found i
+        within less =
+            let j = get_some journals i less in
+            let it = stopped i j.0 j.1 in
+            one i j.0 it (would i j.0 j.1 it.clean)
+
+        past : length journals ≤ i → Found i
+        past more =
+            let beyond : length old.nodes ≤ i = omega (arith, places, more) in
+            let view : view_of old (suc i) ≡ no_view = get_or_past old.nodes i no_view beyond in
+            (w.node (suc i), inl refl, ([], no-place old w (suc i) shows view, none i more low))
+
+    pick : (i : ℕ) → (i < limits.n) ⊎ (limits.n ≤ i) → Node
+    pick i (inl low) = (found i low).0
+    pick i (inr high) = w.node (suc i)
+
+    node_of : ℕ → Node
+    node_of zero = w.node 0
+    node_of (suc i) = pick i (cases_lt i limits.n)
+
+    v : World
+    v = record { size = w.size; node = node_of; sent = w.sent }
+
+    is_picked : (i : ℕ) (c : (i < limits.n) ⊎ (limits.n ≤ i)) → IsOrStandsFor w (suc i) (pick i c)
+    is_picked i (inl low) = (found i low).1
+    is_picked i (inr high) = inl refl
+
+    picked : (i : ℕ) (c : (i < limits.n) ⊎ (limits.n ≤ i)) → i < limits.n
+        → HoldsNode (held (suc i)) (pick i c)
+    picked i (inl low) less = (found i low).2
+    picked i (inr high) less = absurd (omega (arith, high, less))
+
+    stands : IsAsStored w v
+    stands = record { size = refl; nodes = each }
+      where
+        each : (p : ℕ) → IsOrStandsFor w p (node_of p)
+        each zero = inl refl
+        each (suc i) = is_picked i (cases_lt i limits.n)

@@ -9,9 +9,9 @@ use Rattle.urb_stable.specs.declared.stable.Stable.{Ghosts}
 use Rattle.urb_group.specs.GroupStores.{Clustered}
 use Rattle.urb_group.specs.StoreOpenings.{ContinuesFrom, HasStopped}
 use Rattle.urb_group.specs.GroupViews.{GroupView}
-use Rattle.urb_group.specs.StartLimits.{MayStartWith}
+use Rattle.urb_world.specs.StartLimits.{MayStartWith}
 use Rattle.urb_group.specs.StoreContents.{IsKnown}
-use Rattle.urb_group.specs.World.{World}
+use Rattle.urb_world.specs.World.{World}
 
 -- a group with the stores of its nodes, in order of node
 abbrev pub beside_stores : {S : Type 0} → GroupView → List S → Clustered S

@@ -6,7 +6,7 @@ ghost use Rattle.urb_group.specs.StoreOpenings.{HasStopped};
 ghost use Rattle.urb_group.specs.GroupViews.{GroupView};
 ghost use Rattle.urb_group.specs.StoreContents.{AllHold, IsKnown, IsSecured, IsStocked, RestLeaves};
 ghost use Rattle.urb_group.specs.StoreContents.{StopLeaves};
-ghost use Rattle.urb_group.specs.World.{World};
+ghost use Rattle.urb_world.specs.World.{World};
 ghost use Rattle.urb_folder.specs.GroupsAfterStop.{ContinuesTogether, beside_stores};
 ghost use Rattle.urb_folder.specs.AskedStores.{OpensTogether};
 

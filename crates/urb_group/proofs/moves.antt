@@ -2,8 +2,7 @@
 -- place of the group is one event, and a new or opened group shows its world. The proofs of the
 -- group's calls use `submit-moved` and its like (GroupMoves), `arrive-moved` (PacketsAtNodes),
 -- `submit_at` and its like (PlaceMoves), and `all-opens` (OpenedPlaces). This folder uses the
--- folders steps and shown.
-pub mod AcceptedSubmits
+-- folder shown, and the folder steps of urb_world.
 pub mod PlaceMoves
 pub mod GroupMoves
 pub mod PacketEnds

@@ -20,8 +20,8 @@ use Rattle.urb_group.specs.StoreQuestions.{Gives}
 use Rattle.urb_group.specs.GroupCalls.{IsRefused, Steps}
 use Rattle.urb_group.specs.GroupStores.{Clustered, held_draft}
 use Rattle.urb_group.specs.GroupViews.{GroupView, Shows, view_of}
-use Rattle.urb_group.specs.Step.{Arrive, Commit, Crash, Event, Fail, Restart, Submit, Tick}
-use Rattle.urb_group.specs.World.{started}
+use Rattle.urb_world.specs.Step.{Arrive, Commit, Crash, Event, Fail, Restart, Submit, Tick}
+use Rattle.urb_world.specs.World.{started}
 use Rattle.urb_group.specs.declared.command.Command.{Command}
 use Rattle.urb_group.specs.declared.command.Command.TheVariants as command
 

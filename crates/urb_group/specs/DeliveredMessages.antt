@@ -7,8 +7,8 @@ use Rattle.urb_names.specs.Nodes.{numbers_from}
 use Rattle.urb_names.specs.Pairs.{message_of}
 use Rattle.urb_node.specs.NodeViews.{NodeView}
 use Rattle.urb_group.specs.GroupViews.{GroupView, Shows, view_of}
-use Rattle.urb_group.specs.Step.{Arrive, Commit, Crash, Event, Fail, Restart, Submit, Tick, step}
-use Rattle.urb_group.specs.World.{World}
+use Rattle.urb_world.specs.Step.{Event, step}
+use Rattle.urb_world.specs.World.{World}
 
 -- a name that was delivered, and its message
 abbrev pub Delivery : Type 0
@@ -41,26 +41,6 @@ pub record Agree (of : ℕ → List Delivery) : Type 0 where
 -- what the node of this number has delivered
 abbrev pub delivered_at : GroupView → ℕ → List Delivery
 delivered_at group p = deliveries (view_of group p)
-
--- the node at which an event happens
-abbrev pub event_node : Event → ℕ
-event_node (Submit p m) = p
-event_node (Arrive p bytes) = p
-event_node (Tick p) = p
-event_node (Commit p position entry) = p
-event_node (Fail p) = p
-event_node (Crash p) = p
-event_node (Restart p image) = p
-
--- the event stores no record: any event but a receipt and a restart
-abbrev pub StoresNothing : Event → Type 0
-StoresNothing (Submit p m) = Unit {0}
-StoresNothing (Arrive p bytes) = Unit {0}
-StoresNothing (Tick p) = Unit {0}
-StoresNothing (Commit p position entry) = ⊥
-StoresNothing (Fail p) = Unit {0}
-StoresNothing (Crash p) = Unit {0}
-StoresNothing (Restart p image) = ⊥
 
 -- the event happened in every world that the group showed: it shows the world after it
 abbrev pub Follows : GroupView → Event → GroupView → Type 0

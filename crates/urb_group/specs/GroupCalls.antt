@@ -17,9 +17,9 @@ use Rattle.urb_node.specs.Part.{Storing}
 use Rattle.urb_node.specs.Replies.{Done, Drafted, Reply, Same, Sent, Stored, Up, WentDown}
 use Rattle.urb_node.specs.Replies.{packets_in}
 use Rattle.urb_group.specs.GroupViews.{GroupView, Shows, view_of}
-use Rattle.urb_group.specs.Step.{Commit, Event, step}
-use Rattle.urb_group.specs.TruthfulPackets.{AreTruthful}
-use Rattle.urb_group.specs.World.{World, image_of, opened, stored, truthful}
+use Rattle.urb_world.specs.Step.{Commit, Event, step}
+use Rattle.urb_world.specs.TruthfulPackets.{AreTruthful}
+use Rattle.urb_world.specs.World.{World, image_of, opened, stored, truthful}
 use Rattle.urb_group.specs.declared.taken.Taken.{Taken}
 use Rattle.urb_group.specs.declared.taken.Taken.TheVariants as taken
 use Rattle.urb_node.specs.declared.cause.Cause.{Cause}

@@ -1,7 +1,7 @@
 -- What a group holds in memory, and which worlds it shows.
 use Rattle.std.specs.Prelude.{List, slice_index_or, suc, zero, ℕ, ◌≡◌}
-use Rattle.urb_group.specs.RunInvariant.{IsKept}
-use Rattle.urb_group.specs.World.{World}
+use Rattle.urb_world.specs.RunInvariant.{IsKept}
+use Rattle.urb_world.specs.World.{World}
 use Rattle.urb_names.specs.LabelsAndContents.{Limits}
 use Rattle.urb_node.specs.NodeViews.{NodeView, ShowsNode, no_view}
 

@@ -1,21 +1,18 @@
 -- What playing commands does.
 use Rattle.std.specs.Prelude.{Err, List, Ok, Result, Some, Vec, [], false, length, map, slice_get}
-use Rattle.std.specs.Prelude.{ℕ, ◌∷◌, ◌≡◌, ◌⊎◌}
+use Rattle.std.specs.Prelude.{◌∷◌, ◌≡◌, ◌⊎◌}
 use Rattle.urb_names.specs.declared.refusal.NoMemory.{NoMemory}
 use Rattle.urb_names.specs.declared.refusal.Refusal.TheVariants as refusal
 use Rattle.urb_stable.specs.declared.stable.Stable.{Ghosts}
 use Rattle.urb_node.specs.Replies as told
-use Rattle.urb_names.specs.ListPrefixes.{OneBegins}
-use Rattle.urb_stable.specs.DeliveredLogs.{entries_of}
 use Rattle.urb_group.specs.GroupStores.{Clustered}
 use Rattle.urb_group.specs.ClusterCalls.{Applies}
 use Rattle.urb_group.specs.Commands.{AreEvents, is_no_memory, reply_of}
-use Rattle.urb_group.specs.RunMoments.{AgreeInTime, EntriesGrow}
-use Rattle.urb_group.specs.SafetyProperties.{OneMessage, Safe}
+use Rattle.urb_world.specs.RunMoments.{AgreeInTime, EntriesGrow}
 use Rattle.urb_group.specs.GroupViews.{GroupView, Shows}
-use Rattle.urb_group.specs.Step.{Event, Run}
-use Rattle.urb_group.specs.TruthfulPackets.{ToldTruth}
-use Rattle.urb_group.specs.World.{World, stored}
+use Rattle.urb_world.specs.Step.{Event, Run}
+use Rattle.urb_world.specs.TruthfulPackets.{ToldTruth}
+use Rattle.urb_world.specs.World.{World}
 use Rattle.urb_group.specs.declared.command.Command.{Command}
 use Rattle.urb_group.specs.declared.reply.Reply.{Reply}
 
@@ -66,11 +63,3 @@ abbrev pub told_in : {A : Type 0} → Result (Vec (Reply A) A) (Vec (Reply A) A 
     → List told.Reply
 told_in (Ok replies) = map reply_of replies.items
 told_in (Err e) = map reply_of e.0.items
-
--- The headline. Each node's log holds, for each sender, the first messages that this sender's
--- storage took, in order and once. The storages of a majority hold each delivered message. For each
--- sender, its messages in one of two nodes' logs are a prefix of those in the other.
-pub record IsPromised (w : World) : Type 0 where
-  pub safe : Safe w
-  pub agree : (p q s : ℕ) → OneBegins (entries_of s (stored w p)) (entries_of s (stored w q))
-  pub one_message : OneMessage w

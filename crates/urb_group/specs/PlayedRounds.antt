@@ -1,8 +1,8 @@
 -- Rounds of a running cluster: what its commands count as, by the replies that `play` returns.
 use Rattle.std.specs.Prelude.{List}
-use Rattle.urb_group.specs.Rounds.{Act, IsBusyRoundAmong, IsRoundAmong, acts_by, arrival_by}
-use Rattle.urb_group.specs.Rounds.{disturbance, tick_by}
-use Rattle.urb_group.specs.World.{World}
+use Rattle.urb_world.specs.Rounds.{Act, IsBusyRoundAmong, IsRoundAmong, acts_by, arrival_by}
+use Rattle.urb_world.specs.Rounds.{disturbance, tick_by}
+use Rattle.urb_world.specs.World.{World}
 use Rattle.urb_group.specs.declared.command.Command.{Command}
 use Rattle.urb_group.specs.declared.command.Command.TheVariants as command
 use Rattle.urb_names.specs.Nodes.{is_node}

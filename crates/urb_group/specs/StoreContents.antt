@@ -1,15 +1,20 @@
 -- What the stores of a cluster may hold, compared with a world that its group shows.
-use Rattle.std.specs.Prelude.{List, None, Option, Some, false, length, slice_get, suc, true, ℕ, ◌≡◌}
-use Rattle.std.specs.Prelude.{◌⊎◌}
+use Rattle.std.specs.Prelude.{IsTrue, List, None, Option, Some, false, length, slice_get, suc, true, ℕ}
+use Rattle.std.specs.Prelude.{◌++◌, ◌≡◌, ◌⊎◌}
 use Rattle.urb_stable.specs.Entries.{Entry}
+use Rattle.urb_stable.specs.Records.{pend}
 use Rattle.urb_stable.specs.StableStorage.{IsContents}
+use Rattle.urb_stable.specs.StoredTogether.{IsContentsOrAll}
 use Rattle.urb_stable.specs.declared.stable.Stable.{Ghosts}
 use Rattle.urb_node.specs.Part.{Node}
 use Rattle.urb_node.specs.Steps.{is_down}
 use Rattle.urb_group.specs.GroupStores.{Clustered}
 use Rattle.urb_group.specs.GroupViews.{Shows}
-use Rattle.urb_group.specs.ProcessStops.{GoesOnIn, MayLeave}
-use Rattle.urb_group.specs.World.{World, image_of}
+use Rattle.urb_world.specs.ProcessStops.{GoesOnIn, MayLeave}
+use Rattle.urb_world.specs.RunInvariant.{AreShort}
+use Rattle.urb_world.specs.StoresAhead.{IsOrStandsFor, MayFollow}
+use Rattle.urb_world.specs.World.{World, image_of, stored}
+use Rattle.urb_names.specs.Nodes.{is_node}
 
 module _ {S A : Type 0} (g : Ghosts S A) where
   -- if this store is honest, whatever it may turn out to hold is what a stop may leave of the node
@@ -88,6 +93,28 @@ module _ {S A : Type 0} (g : Ghosts S A) where
   WouldLeave w stores =
       (i : ℕ) (store : S) → slice_get stores i ≡ Some store → g.is_clean store
       → LeavesOf (w.node (suc i)) store
+
+  -- A stop inside a call that stores a tail together leaves the records of node p, or these and the
+  -- whole tail. The tail may follow them.
+  pub record LeavesTogether (w : World) (p : ℕ) (store : S) : Type 0 where
+    pub is : IsTrue (is_node w.size.n p)
+    pub tail : List Entry
+    pub may : MayFollow w.size (stored w) p (stored w p) tail
+    pub short : AreShort (pend (stored w p ++ tail))
+    pub only : g.leaves_only store (IsContentsOrAll tail (stored w p) None)
+
+  -- What a stop leaves of node p's store, which may hold records ahead of their events: what it may
+  -- leave of the node, or of the node as its store has it.
+  abbrev pub LeavesAhead : World → ℕ → S → Type 0
+  LeavesAhead w p store =
+      LeavesTogether w p store
+      ⊎ ((node : Node) × IsOrStandsFor w p node × LeavesOf node store)
+
+  -- if a store's storage has returned what was written, a stop leaves in it that of its node
+  abbrev pub WouldLeaveAhead : World → List S → Type 0
+  WouldLeaveAhead w stores =
+      (i : ℕ) (store : S) → slice_get stores i ≡ Some store → g.is_clean store
+      → LeavesAhead w (suc i) store
 
   -- if the store's storage has returned what was written, the store is honest
   abbrev pub IsGenuine : S → Type 0

@@ -14,9 +14,10 @@ use Rattle.urb_group.specs.GroupCalls.{Opens}
 use Rattle.urb_group.specs.GroupStores.{Clustered}
 use Rattle.urb_group.specs.GroupViews.{GroupView, IsSound, Shows, view_of}
 use Rattle.urb_group.specs.StoreContents.{AllHold, AreChosen, IsKnown}
-use Rattle.urb_group.specs.StartLimits.{MayStartWith}
-use Rattle.urb_group.specs.ProcessStops.{GoesOnUnder}
-use Rattle.urb_group.specs.World.{World, image_of, opened}
+use Rattle.urb_world.specs.StartLimits.{MayStartWith}
+use Rattle.urb_world.specs.StoresAhead.{IsAsStored}
+use Rattle.urb_world.specs.ProcessStops.{GoesOnUnder}
+use Rattle.urb_world.specs.World.{World, image_of, opened}
 
 -- the stores of the opened cluster, or the stores that are returned
 abbrev pub stores_in : {S A : Type 0} → Result (Clustered S) (Vec S A × Refusal) → List S
@@ -71,16 +72,18 @@ module _ {S A : Type 0} (g : Ghosts S A) where
   OpensStores size stores (Ok cluster) = OpensFrom size stores (Ok cluster.group) cluster.stores
   OpensStores size stores (Err e) = OpensFrom size stores (Err e.1) e.0.items
 
-  -- A process stopped whose group showed this world. It had at most as many nodes as these limits.
-  -- The stores that are passed now may be any that hold what a stop may leave of its nodes. Each
-  -- holds its node's records, or these with the held or the doubtful record. So the store of a new
-  -- node holds none.
+  -- A process stopped whose group showed a world, and this is that world as its stores have it. It
+  -- had at most as many nodes as these limits. The stores that are passed now may be any that hold
+  -- what a stop may leave of its nodes. Each holds its node's records, or these with the held or the
+  -- doubtful record. So the store of a new node holds none.
   pub record HasStopped (old : GroupView) (w : World) (limits : Limits)
       (passed : List S) : Type 0 where
     pub sound : IsSound old
     pub counted : length old.nodes ≡ old.size.n
     pub nodes : old.size.n ≤ limits.n
-    pub shows : Shows old w
+    pub shown : World
+    pub shows : Shows old shown
+    pub stands : IsAsStored shown w
     pub holds : AllHold g w passed
 
   -- The new cluster goes on from this world. Each of these lists is one that its store may have

@@ -3,9 +3,5 @@ pub mod PlaceCalls
 pub mod PacketTargets
 pub mod ClusterTies
 pub mod CallReplies
-pub mod Examples
-pub mod Scripts
 pub mod StoreRetrievals
-pub mod RecoveryExamples
-pub mod RoundExamples
 pub mod TailChecks

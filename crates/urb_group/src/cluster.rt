@@ -8,12 +8,12 @@ ghost use Rattle.urb_group.specs.GroupStores.{held_draft};
 ghost use Rattle.urb_group.specs.ClusterCalls.{Alone, Applies, FailsHeld, RestartsBy, Starts};
 ghost use Rattle.urb_group.specs.ClusterCalls.{StoresHeld, is_fallen};
 ghost use Rattle.urb_group.specs.Commands.{reply_of};
-ghost use Rattle.urb_group.specs.MemoryStores.{in_memory};
+ghost use Rattle.urb_world.specs.MemoryStores.{in_memory};
 ghost use Rattle.urb_group.specs.InPlaceDrafts.{AppliesInPlace, FailsInPlace};
 ghost use Rattle.urb_group.specs.GroupViews.{IsSound};
 ghost use Rattle.urb_group.specs.StoreContents.{ContentsFit, IsGenuine, IsSecured, IsStocked, StopLeaves};
 ghost use Rattle.urb_group.specs.StoreContents.{WouldLeave};
-ghost use Rattle.urb_group.specs.Step.{Arrive, Crash, Submit, Tick};
+ghost use Rattle.urb_world.specs.Step.{Arrive, Crash, Submit, Tick};
 
 use crate::held_drafts::{drop_draft, hold_draft, no_drafts, take_draft};
 use crate::stores::{

@@ -2,10 +2,11 @@
 
 ghost use Rattle.std.specs.Prelude.{◌≡◌, is_some};
 ghost use Rattle.urb_group.specs.Commands.{is_no_memory};
-ghost use Rattle.urb_group.specs.PlayedCommands.{IsPromised, Plays, Runs, told_in};
+ghost use Rattle.urb_group.specs.PlayedCommands.{Plays, Runs, told_in};
+ghost use Rattle.urb_world.specs.PromisedWorlds.{IsPromised};
 ghost use Rattle.urb_group.specs.GroupViews.{Shows};
 ghost use Rattle.urb_group.specs.StoreContents.{IsSecured, IsStocked};
-ghost use Rattle.urb_group.specs.World.{World};
+ghost use Rattle.urb_world.specs.World.{World};
 
 use crate::{Cluster, Command, Reply};
 use std::alloc::Allocator;

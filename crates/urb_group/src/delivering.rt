@@ -8,13 +8,13 @@ ghost use Rattle.urb_names.specs.ListPrefixes.{Begins};
 ghost use Rattle.urb_names.specs.LabelsAndContents.{IsLimits};
 ghost use Rattle.urb_node.specs.Replies.{Done, Stored};
 ghost use Rattle.urb_stable.specs.Entries.{Entry};
-ghost use Rattle.urb_stable.specs.DeliveredLogs.{entries, log};
+ghost use Rattle.urb_stable.specs.DeliveredLogs.{entries};
 ghost use Rattle.urb_group.specs.GroupCalls.{Steps};
-ghost use Rattle.urb_group.specs.DeliveredMessages.{Agree, Follows, StoresNothing, delivered_at};
-ghost use Rattle.urb_group.specs.DeliveredMessages.{event_node, known};
+ghost use Rattle.urb_group.specs.DeliveredMessages.{Agree, Follows, delivered_at, known};
+ghost use Rattle.urb_world.specs.EventEffects.{StoresNothing, event_node};
 ghost use Rattle.urb_group.specs.GroupViews.{GroupView, IsSound, Shows};
-ghost use Rattle.urb_group.specs.Step.{Commit, Event, step};
-ghost use Rattle.urb_group.specs.World.{World, stored};
+ghost use Rattle.urb_world.specs.Step.{Commit, Event};
+ghost use Rattle.urb_world.specs.World.{World, stored};
 
 use crate::{Config, Group};
 use std::alloc::Allocator;
@@ -29,24 +29,6 @@ pub fn a_group_holds_what_its_worlds_deliver()
         → Shows group v
         → Shows group w
         → entries (stored v p) ≡ entries (stored w p) }
-{}
-
-/// An event leaves the other nodes as they are. Only a receipt and a restart store a record. A
-/// submit, an arrival, a tick, a failed store and a crash leave every node's records, and so its
-/// log.
-pub fn an_event_changes_one_node()
-    ensures others { (w : World) (event : Event) (q : ℕ) →
-        event_node event ≢ q → (step w event).1.node q ≡ w.node q }
-    ensures nothing { (w : World) (event : Event) (q : ℕ) →
-        StoresNothing event → stored (step w event).1 q ≡ stored w q }
-{}
-
-/// When a record is stored, the node's log grows by as many names as the reply says were released.
-pub fn a_log_grows_by_what_is_released()
-    ensures { (w : World) (p position : ℕ) (entry : Entry) (done : Done)
-        → (step w (Commit p position entry)).0 ≡ Stored done
-        → length (log (stored (step w (Commit p position entry)).1 p))
-        ≡ length (log (stored w p)) + done.released }
 {}
 
 /// The deliveries of a sound group's nodes only grow at their end. An event changes the deliveries

@@ -3,9 +3,9 @@
 ghost use Rattle.std.specs.Prelude.{IfOk};
 ghost use Rattle.urb_group.specs.GroupCalls.{ComesUp, Commits, GoesDown, Takes, Ticks};
 ghost use Rattle.urb_group.specs.GroupViews.{Shows};
-ghost use Rattle.urb_group.specs.Step.{Crash, Fail, Restart, Submit, Tick};
+ghost use Rattle.urb_world.specs.Step.{Crash, Fail, Restart, Submit, Tick};
 ghost use Rattle.urb_group.specs.internal.PlaceCalls.{SubmitsAt};
-ghost use Rattle.urb_group.specs.World.{started};
+ghost use Rattle.urb_world.specs.World.{started};
 
 use crate::Taken;
 use crate::node_moves::{

@@ -1,8 +1,8 @@
 //! All nodes of a group in one process.
 //!
-//! The crate has the group itself, the group with its stores, laws, and worked examples. A *world*
-//! is the algorithm's own state: every node's storage and memory, and every packet that was ever
-//! sent. The laws hold in every world that a run reaches.
+//! The crate has the group itself, the group with its stores, laws of groups, and worked examples.
+//! A *world* is the algorithm's own state: every node's storage and memory, and every packet that
+//! was ever sent. `urb_world` has worlds, runs, and the laws of all runs.
 //!
 //! ```text
 //! let mut group = Group::new(alloc, config)?;            // or Group::open(alloc, config, images)
@@ -16,10 +16,10 @@
 //! let cluster = Cluster::open(alloc, config, stores)?;   // after a stop: the cluster goes on
 //! ```
 //!
-//! Each call is one step of every world that the group shows (`specs/Step.antt`), or is refused and
-//! changes nothing. `play` carries the headline theorem. `laws` has the theorems over all runs.
-//! `starts` says with which limits a stopped group may start again. `recovering` says that no state
-//! is a dead end, and `fairness` that rounds deliver in any order.
+//! Each call is one step of every world that the group shows (`specs/GroupViews.antt`), or is
+//! refused and changes nothing. `play` carries the headline theorem. `laws` has the theorems about
+//! all sound groups, `delivering` those about what nodes have delivered. `fairness` says that two
+//! lists of commands that are rounds deliver.
 //! No call here waits, sends, or reads a clock.
 #![tactic(auto)]
 
@@ -29,7 +29,6 @@ mod command_list;
 pub mod delivering;
 pub mod fairness;
 mod group;
-pub mod heard_laws;
 mod held_drafts;
 pub mod laws;
 mod node_moves;
@@ -37,11 +36,9 @@ mod opening;
 mod packet_arrival;
 mod queries;
 mod recall;
-pub mod recovering;
 mod reopening;
 mod reply;
 mod shared_payloads;
-pub mod starts;
 mod state;
 mod stores;
 mod tail_records;

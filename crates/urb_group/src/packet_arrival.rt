@@ -8,7 +8,7 @@ ghost use Rattle.urb_group.specs.GroupCalls.{Takes};
 ghost use Rattle.urb_group.specs.internal.PlaceCalls.{ArrivesAt, MayReach};
 ghost use Rattle.urb_group.specs.internal.PacketTargets.{AreEnds, HoldsPair, IsAsCertified, TellsTruth};
 ghost use Rattle.urb_group.specs.internal.PacketTargets.{is_for_node};
-ghost use Rattle.urb_group.specs.Step.{Arrive};
+ghost use Rattle.urb_world.specs.Step.{Arrive};
 
 use crate::node_moves::{Node, move_node, node_after, place_of};
 use crate::{Group, Taken};

@@ -1,8 +1,8 @@
 //! Queries about a node of a group, whatever state the node is in.
 
-ghost use Rattle.std.specs.Prelude.{◌≡◌, Some, option_map};
+ghost use Rattle.std.specs.Prelude.{◌<◌, ◌≡◌, Some, option_map};
 ghost use Rattle.urb_node.specs.CallEffects.{CountsOwn as CountsOwnAt, FindsMessage as FindsMessageAt};
-ghost use Rattle.urb_node.specs.CallEffects.{IsCertified, TellsLog as TellsLogAt};
+ghost use Rattle.urb_node.specs.CallEffects.{IsCertified, TellsLog as TellsLogAt, TellsNext};
 ghost use Rattle.urb_group.specs.GroupCalls.{Answers, CountsOwn, FindsMessage, Holds, TellsLog};
 ghost use Rattle.urb_group.specs.PlaceViews.{state_in};
 ghost use Rattle.urb_group.specs.internal.PlaceInvariant.{ShowsAt};
@@ -11,7 +11,7 @@ ghost use Rattle.urb_group.specs.ReportedStates.{state_of};
 use crate::node_moves::{Node, place_of};
 use crate::{Group, State};
 use std::alloc::Allocator;
-use urb_names::{Message, Name, NodeId};
+use urb_names::{ClientId, Message, Name, NodeId};
 
 impl<A: Allocator + Copy> Node<A> {
     // Returns the node's state.
@@ -66,6 +66,18 @@ impl<A: Allocator + Copy> Node<A> {
             Node::Ready(ready) => ready.own_len(),
             Node::Storing(storing) => storing.own_len(),
             Node::Down(down) => down.own_len(),
+        }
+    }
+
+    /// Returns the number that a client must give its next message at the node.
+    pub(crate) fn client_next(&self, client: ClientId) -> u32
+        ensures value { TellsNext (ShowsAt self.now) client result }
+        ensures range { 0 < result }
+    {
+        match self {
+            Node::Ready(ready) => ready.client_next(client),
+            Node::Storing(storing) => storing.client_next(client),
+            Node::Down(down) => down.client_next(client),
         }
     }
 }

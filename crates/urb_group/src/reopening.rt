@@ -8,7 +8,7 @@ ghost use Rattle.urb_group.specs.internal.StoreRetrievals.{RetrievesAll};
 ghost use Rattle.urb_group.specs.GroupViews.{GroupView};
 ghost use Rattle.urb_group.specs.StoreContents.{AllHold, IsKnown, IsSecured, IsStocked, RestLeaves};
 ghost use Rattle.urb_group.specs.StoreContents.{StopLeaves};
-ghost use Rattle.urb_group.specs.World.{World};
+ghost use Rattle.urb_world.specs.World.{World};
 
 use crate::held_drafts::no_drafts;
 use crate::{Cluster, Group};

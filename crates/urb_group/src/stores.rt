@@ -8,7 +8,7 @@ ghost use Rattle.urb_group.specs.ClusterCalls.{BreaksArmed, Reacts, Reads, Store
 ghost use Rattle.urb_group.specs.Commands.{reply_of};
 ghost use Rattle.urb_group.specs.internal.CallReplies.{IsUnfallen, IsUnstored, unfallen_in, unstored_in};
 ghost use Rattle.urb_group.specs.GroupViews.{IsSound};
-ghost use Rattle.urb_group.specs.Step.{Commit, Fail, Restart};
+ghost use Rattle.urb_world.specs.Step.{Commit, Fail, Restart};
 
 use crate::{Group, Reply, State};
 use std::alloc::Allocator;

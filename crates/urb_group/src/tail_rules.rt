@@ -8,7 +8,7 @@ ghost use Rattle.std.specs.Bool.{MatchBool};
 ghost use Rattle.urb_stable.specs.Fitting.{in_range};
 ghost use Rattle.urb_node.specs.CallEffects.{Holds as HoldsAt};
 ghost use Rattle.urb_group.specs.PlaceViews.{memory_in};
-ghost use Rattle.urb_group.specs.StoresAhead.{TellsTail};
+ghost use Rattle.urb_group.specs.TailQuestions.{TellsTail};
 ghost use Rattle.urb_group.specs.internal.PlaceInvariant.{IsGroup, ShowsAt};
 ghost use Rattle.urb_group.specs.internal.TailChecks.{CountsClient, CountsHolder, CountsHolders};
 ghost use Rattle.urb_group.specs.internal.TailChecks.{FindsBehind, IsNamedBehind, IsNextBehind};
@@ -35,25 +35,11 @@ impl<A: Allocator + Copy> Node<A> {
     }
 }
 
-// Counts the node's own messages that are this client's. It looks for the client's last one, from
-// the node's last message back.
-fn count_client<A: Allocator + Copy>(current: &Node<A>, node: NodeId, client: ClientId) -> u32
-    requires { (memory_in current.now).node ≡ node }
+// Counts the node's own messages that are this client's.
+fn count_client<A: Allocator + Copy>(current: &Node<A>, client: ClientId) -> u32
     ensures { CountsClient current.now client result }
 {
-    let own = current.own_len();
-    for back in 0..own {
-        let name = Name {
-            sender: node,
-            seq: own - back,
-        };
-        if let Some(message) = current.message(name) {
-            if message.client() == client {
-                return message.number();
-            }
-        }
-    }
-    0
+    current.client_next(client) - 1
 }
 
 // Returns the message that the node would have under a name.
@@ -141,7 +127,7 @@ fn is_next<A: Allocator + Copy>(
         return false;
     }
     add_up(
-        count_client(current, node, message.client()),
+        count_client(current, message.client()),
         of_client,
         message.number() - 1,
     )
@@ -339,8 +325,7 @@ impl<A: Allocator + Copy> Group<A> {
     /// breaks a rule. The answer doesn't say that the node's next events draft these records.
     ///
     /// Allocates no memory. It looks up each record by its name, and reads the records before it in
-    /// the list. For a pair of the node's own it also reads own messages of the node: from the last
-    /// one back to the last one of the pair's client.
+    /// the list. For a pair of the node's own it also looks up the next number of the pair's client.
     pub fn may_follow(&self, node: NodeId, records: &[Record<Message<A>>]) -> bool
         ensures { TellsTail self.now node records.now result }
     {

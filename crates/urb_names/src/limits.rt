@@ -25,7 +25,7 @@ pub const MAX_CAP: u32 = 1_000_000;
 /// The greatest length of a payload, in bytes.
 ///
 /// From it follow the greatest length of a packet (`MAX_PACKET`) and the room for a datagram
-/// (`receiver.rt` of `urb_worker`). So does the greatest length of a request (`LONGEST_REQUEST` of
+/// (`receiver.rt` of `urb_link`). So does the greatest length of a request (`LONGEST_REQUEST` of
 /// `urb_client`).
 pub const MAX_PAYLOAD: usize = 16_384;
 

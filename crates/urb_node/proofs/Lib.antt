@@ -9,8 +9,8 @@
 -- that a restart reads, and the packets that a node sends.
 -- The main lemmas are `submit-says` (SubmitOutcomes), `arrive-says` (ArrivalOutcomes) and
 -- `commit-says` (RecordOutcomes). The proofs use lemmas of urb_names (names, pairs,
--- acknowledgements), urb_stable (records and logs), urb_window and urb_pending. The crate urb_group
--- uses ShownNodes, Openings, RestartReplies, ImageNames, FinalAnswers and SubmitCases.
+-- acknowledgements), urb_stable (records and logs), urb_window and urb_pending. The crates urb_world
+-- and urb_group use ShownNodes, Openings, RestartReplies, ImageNames, FinalAnswers and SubmitCases.
 pub mod ShownNodes
 pub mod NextRecords
 pub mod MemoryChanges

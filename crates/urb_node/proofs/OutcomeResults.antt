@@ -1,6 +1,8 @@
 -- From the outcome in a node's memory to the result of its call.
 use Rattle.std.proofs.Common.{◌≡◌, ℕ, suc, true, List, Result, Ok, Err, refl, sym, ap, ◌∙◌, subst}
-use Rattle.std.specs.Prelude.{IfOk, OnOk, OnErr, if◌then◌else◌}
+use Rattle.std.proofs.Common.{ControlFlow, Break, Continue}
+use Rattle.std.specs.ControlFlow.{continue_value}
+use Rattle.std.specs.Prelude.{IfOk, IfSome, OnOk, OnErr, if◌then◌else◌}
 use Rattle.urb_names.specs.LabelsAndContents.{Label, Content}
 use Rattle.urb_names.specs.CarriedPackets.{Carried}
 use Rattle.urb_names.specs.CyclicOrder.{are_rising}
@@ -10,9 +12,9 @@ use Rattle.urb_names.specs.declared.refusal.Refusal.{Refusal}
 use Rattle.urb_names.specs.declared.refusal.Refusal.TheVariants as refusal
 use Rattle.urb_stubborn.specs.Resends.{Resending, tick_packets, ticked}
 use Rattle.urb_stable.specs.Entries.{name_of}
+use Rattle.urb_node.specs.declared.answer.Answer.{Answer}
 use Rattle.urb_node.specs.declared.answer.Answer.TheVariants as answer
-use Rattle.urb_node.specs.declared.call_outcomes.Found.{Found}
-use Rattle.urb_node.specs.declared.call_outcomes.Found.TheVariants as found
+use Rattle.urb_node.specs.declared.call_outcomes.Wanted.{Wanted}
 use Rattle.urb_node.specs.declared.held.Held.{Held}
 use Rattle.urb_node.specs.Part.{Node, State}
 use Rattle.urb_node.specs.Replies.{Reply, Drafted, Sent, Refused}
@@ -21,7 +23,8 @@ use Rattle.urb_node.specs.NodeMemories.{Memory, ShowsReady, IsSameNode}
 use Rattle.urb_node.specs.internal.ReadyViews.{ready_view}
 use Rattle.urb_node.specs.internal.HeldLayers.{IsHeld}
 use Rattle.urb_node.specs.internal.Outcomes.{Outcome, Answers, Refuses, Wants}
-use Rattle.urb_node.specs.internal.OutcomeSteps.{Finds, IsFoundIn, IsRefusalOf, TakesMemory, step_from}
+use Rattle.urb_node.specs.internal.OutcomeSteps.{Finds, IsRefusalOf, IsWanted, TakesMemory}
+use Rattle.urb_node.specs.internal.OutcomeSteps.{step_from}
 use Rattle.urb_node.specs.CallEffects.{IsRefusedAs, LeadsTo, MayGrow, Ticks}
 use Rattle.urb_node.proofs.MemoryChanges.{tick-shows}
 use Rattle.urb_node.proofs.OutcomeAgreement.{Says}
@@ -73,13 +76,13 @@ is-refused told outcome (refusal.Frame code) says is =
 
 -- what was found leads to what the definition's outcome says
 pub found-leads : {A : Type 0} (held : Held A) (told : Reply × Node) (outcome : Outcome)
-    (old new : Memory) (f : Found A) → Says told outcome → Finds old outcome (Ok f) new
-    → IsSameNode old new → IsFoundIn held f
+    (old new : Memory) (f : ControlFlow (Answer (List Carried)) (Wanted A)) → Says told outcome
+    → Finds old outcome (Ok f) new → IsSameNode old new → IfSome (continue_value f) (IsWanted held)
     → LeadsTo told old (Ok (step_from new f))
-found-leads held told outcome old new (found.Known a) says finds same in_it =
+found-leads held told outcome old new (Break a) says finds same in_it =
     let told_so : Says told (Answers a new) =
     subst (λ (o : Outcome). Says told o) finds says in (told_so.0, told_so.1, same)
-found-leads held told outcome old new (found.New w) says finds same in_it =
+found-leads held told outcome old new (Continue w) says finds same in_it =
     let told_so : Says told (Wants w.entry w.cause new) =
     subst (λ (o : Outcome). Says told o) finds says in (
       told_so.0 ∙ ap (λ entry. Drafted (name_of entry) (suc new.count)) (sym in_it.1),

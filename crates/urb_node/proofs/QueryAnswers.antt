@@ -3,8 +3,9 @@ use Rattle.std.proofs.Common.{◌≡◌, ◌∙◌, Bool, List, ap, length, sym,
 use Rattle.urb_names.specs.Names.{has_name}
 use Rattle.urb_names.specs.LabelsAndContents.{Content, Label}
 use Rattle.urb_names.specs.CyclicOrder.{are_rising}
-use Rattle.urb_names.specs.Pairs.{has_pair, message_of, own}
+use Rattle.urb_names.specs.Pairs.{has_pair, message_of, next_number, own}
 use Rattle.urb_node.specs.CallEffects.{CountsOwn, FindsMessage, Holds, IsCertified, TellsLog}
+use Rattle.urb_node.specs.CallEffects.{TellsNext}
 use Rattle.urb_node.specs.Part.{State}
 use Rattle.urb_node.specs.NodeMemories.{Memory, ShowsIn, view_in}
 use Rattle.urb_node.proofs.ShownNodes.{shown-broadcast, shown-found}
@@ -34,3 +35,12 @@ pub own_says : (state : State) (a : Memory) (result : ℕ) → result ≡ length
     → are_rising a.pairs ≡ true → CountsOwn (ShowsIn state a) result
 own_says state a result e rise node s =
     e ∙ ap length (sym (shown-broadcast a.limits a.node (view_in state a) node s rise))
+
+-- a client's next number in a memory is its next number at each node that it shows
+pub next_says : (state : State) (a : Memory) (client result : ℕ)
+    → result ≡ next_number client (own a.node a.pairs) → are_rising a.pairs ≡ true
+    → TellsNext (ShowsIn state a) client result
+next_says state a client result e rise node s =
+    e
+    ∙ ap (next_number client)
+    (sym (shown-broadcast a.limits a.node (view_in state a) node s rise))

@@ -1,6 +1,6 @@
 -- The packets that a node returns carry its stored pairs.
 use Rattle.std.proofs.Common.{Bool, Err, List, None, Ok, Option, Result, Some, [], false, refl}
-use Rattle.std.proofs.Common.{subst, sym, true, ℕ, ◌∙◌, ◌∷◌, ◌≡◌}
+use Rattle.std.proofs.Common.{ControlFlow, Break, Continue, subst, sym, true, ℕ, ◌∙◌, ◌∷◌, ◌≡◌}
 use Rattle.std.proofs.lemmas.Bool.{false≢true, or_left}
 use Rattle.std.specs.Prelude.{IfOk, if◌then◌else◌}
 use Rattle.urb_names.proofs.FoundPairs.{has_pair-found}
@@ -33,10 +33,10 @@ use Rattle.urb_node.specs.Replies.{packets_with}
 use Rattle.urb_node.proofs.RecordOutcomes.{same_limits}
 use Rattle.urb_node.specs.Steps.{heard_of, packets_of}
 use Rattle.urb_node.specs.NodeMemories.{Memory, ShowsIn}
+use Rattle.urb_node.specs.declared.answer.Answer.{Answer}
 use Rattle.urb_node.specs.declared.answer.Answer.TheVariants as answer
 use Rattle.urb_node.specs.declared.cause.Cause.{Cause}
-use Rattle.urb_node.specs.declared.call_outcomes.Found.{Found}
-use Rattle.urb_node.specs.declared.call_outcomes.Found.TheVariants as found
+use Rattle.urb_node.specs.declared.call_outcomes.Wanted.{Wanted}
 use Rattle.urb_node.specs.declared.step.Step.{Step}
 use Rattle.urb_node.specs.declared.step.Step.TheVariants as step
 
@@ -175,12 +175,12 @@ arrive-from a q x m flags same = found (message_of a.pairs x) refl
 
 -- the packets of the step that follows from a packet are in memory too
 pub arrived-from : {A : Type 0} (a : Memory) (q : ℕ) (x : Label) (m : Content)
-    (flags : Option Flags) (new : Memory) (f : Found A)
+    (flags : Option Flags) (new : Memory) (f : ControlFlow (Answer (List Carried)) (Wanted A))
     → ((o : Content) → message_of a.pairs x ≡ Some o → o ≡ m)
     → Finds a (arrive_outcome a q x m flags) (Ok f) new → AnswersFrom (step_from new f)
-arrived-from a q x m flags new (found.Known told) same finds =
+arrived-from a q x m flags new (Break told) same finds =
     subst (λ (outcome : Outcome). AreAnswersFrom outcome) finds (arrive-from a q x m flags same)
-arrived-from a q x m flags new (found.New w) same finds = tt
+arrived-from a q x m flags new (Continue w) same finds = tt
 
 -- if the packets of an answer carry pairs in memory, these are stored at each node that is shown
 pub answers-of_stored : {A : Type 0} (step : Step A) → AnswersFrom step → AnswersOfStored step

@@ -4,7 +4,7 @@ use Rattle.urb_names.specs.declared.refusal.NoMemory.{NoMemory}
 use Rattle.urb_names.specs.LabelsAndContents.{Label, Content}
 use Rattle.urb_names.specs.CarriedPackets.{AreFrom, Carried}
 use Rattle.urb_names.specs.Names.{has_name}
-use Rattle.urb_names.specs.Pairs.{has_pair, message_of}
+use Rattle.urb_names.specs.Pairs.{has_pair, message_of, next_number}
 use Rattle.urb_names.specs.declared.flags.Flags.{Flags}
 use Rattle.urb_names.specs.declared.refusal.Refusal.{Refusal}
 use Rattle.urb_names.specs.declared.refusal.Refusal.TheVariants as refusal
@@ -144,7 +144,7 @@ Restarts old image (Err e) =
     ((node : Node) → ShowsDown old node
     → IsRefusedAs (restarts old.memory.node image node node.state).0 e.1) × (e.0 ≡ old)
 
--- The next five definitions are queries about a node's stored records, for every node that is
+-- The next six definitions are queries about a node's stored records, for every node that is
 -- shown. The first: whether the pair is pending.
 abbrev pub Holds : (Node → Type 0) → Label → Content → Bool → Type 0
 Holds Shows x m result = (node : Node) → Shows node → result ≡ has_pair (pend node.records) x m
@@ -164,3 +164,8 @@ TellsLog Shows result = (node : Node) → Shows node → result ≡ log node.rec
 -- how many messages the node has broadcast
 abbrev pub CountsOwn : (Node → Type 0) → ℕ → Type 0
 CountsOwn Shows result = (node : Node) → Shows node → result ≡ length node.broadcast
+
+-- the number that a client's next message at the node must have
+abbrev pub TellsNext : (Node → Type 0) → ℕ → ℕ → Type 0
+TellsNext Shows client result =
+    (node : Node) → Shows node → result ≡ next_number client node.broadcast

@@ -1,14 +1,17 @@
 //! What a ready node finds out about a call, before the node changes state.
+//!
+//! A call that isn't refused breaks off with an answer, or continues with a record to store.
 
 ghost use Rattle.std.specs.Prelude.{◌≡◌, ◌≤◌, true, false, [], ◌∷◌, Some, IsOk, OnOk, OnErr};
-ghost use Rattle.std.specs.Prelude.{IfOk, is_some, if◌then◌else◌};
+ghost use Rattle.std.specs.Prelude.{IfOk, IfSome, is_some, if◌then◌else◌};
+ghost use Rattle.std.specs.ControlFlow.{continue_value};
 ghost use Rattle.std.specs.Option.{ForSome};
 ghost use Rattle.urb_names.specs.Names.{has_name};
 ghost use Rattle.urb_names.specs.Pairs.{message_of};
 ghost use Rattle.urb_stable.specs.declared.record.Record.TheVariants.{Pend, PendCert};
 ghost use Rattle.urb_node.specs.LayerFields.{memory_of};
 ghost use Rattle.urb_node.specs.internal.HeldLayers.{HasRoom, IsHeld, IsNextHeld};
-ghost use Rattle.urb_node.specs.internal.OutcomeSteps.{Finds, IsFoundIn, IsWanted};
+ghost use Rattle.urb_node.specs.internal.OutcomeSteps.{Finds, IsWanted};
 ghost use Rattle.urb_node.specs.internal.LayerAdditions.{counted_with};
 ghost use Rattle.urb_node.specs.CallEffects.{IsForNode};
 ghost use Rattle.urb_node.specs.AnswerPackets.{answer_with};
@@ -22,6 +25,7 @@ use crate::cause::{Cause, cause_of, certified_source};
 use crate::heard_certificates::{hear_packet, says_certified};
 use crate::held::Held;
 use std::alloc::{Allocator, Global};
+use std::ops::ControlFlow;
 use urb_majority::Acks;
 use urb_names::{
     ClientId, Flags, MAX_PAYLOAD, Message, Name, NoMemory, NodeId, Packet, PacketView, Payload,
@@ -39,14 +43,6 @@ pub(crate) struct Wanted<A: Allocator = Global> {
     pub(crate) copy: Record<Message<A>>,
     pub(crate) cause: Option<Cause>,
     pub(crate) packets: Outbox<A>,
-}
-
-/// The outcome of a call: an answer, or a record to store.
-#[derive(Drop)]
-#[derive_where(Debug)]
-pub(crate) enum Found<A: Allocator = Global> {
-    Known(Answer<Outbox<A>>),
-    New(Wanted<A>),
 }
 
 // Reserves space for everything that a pending record of this name adds, except for a certificate.
@@ -158,7 +154,7 @@ fn answer_repeat<A: Allocator + Copy>(
     client: ClientId,
     number: u32,
     payload: &[u8],
-) -> Result<Found<A>, Refusal>
+) -> Result<ControlFlow<Answer<Outbox<A>>, Wanted<A>>, Refusal>
     ensures { Finds (memory_of held.now)
         (repeat_outcome (memory_of held.now)
         (record { client = client; number = number; payload = payload.now }) name
@@ -167,7 +163,7 @@ fn answer_repeat<A: Allocator + Copy>(
     match held.pending.message(name) {
         Some(message) => {
             if message.payload() == payload {
-                Ok(Found::Known(Answer::Accepted(name)))
+                Ok(ControlFlow::Break(Answer::Accepted(name)))
             } else {
                 Err(Refusal::Conflict)
             }
@@ -184,11 +180,11 @@ pub(crate) fn judge_submit<A: Allocator + Copy>(
     client: ClientId,
     number: u32,
     payload: &Payload<A>,
-) -> Result<Found<A>, Refusal>
+) -> Result<ControlFlow<Answer<Outbox<A>>, Wanted<A>>, Refusal>
     requires kept { IsHeld held.old }
     ensures kept { IsHeld held.new }
     ensures same { IsSameNode (memory_of held.old) (memory_of held.new) }
-    ensures wanted { IfOk result (λ found. IsFoundIn held.new found) }
+    ensures wanted { IfOk result (λ next. IfSome (continue_value next) (IsWanted held.new)) }
     ensures outcome { Finds (memory_of held.old)
         (submit_outcome (memory_of held.old)
         (record { client = client; number = number; payload = payload.now })) result
@@ -217,7 +213,7 @@ pub(crate) fn judge_submit<A: Allocator + Copy>(
     };
     let message = Message::sharing(alloc, client, number, payload)?;
     let is_certified = is_majority(1, held.config.n());
-    Ok(Found::New(make_wanted(held, alloc, name, message, is_certified, None)?))
+    Ok(ControlFlow::Continue(make_wanted(held, alloc, name, message, is_certified, None)?))
 }
 
 // Counts a node for a name.
@@ -244,7 +240,7 @@ fn judge_uncertified<A: Allocator + Copy>(
     source: NodeId,
     name: Name,
     flags: Option<Flags>,
-) -> Result<Found<A>, Refusal>
+) -> Result<ControlFlow<Answer<Outbox<A>>, Wanted<A>>, Refusal>
     requires kept { IsHeld held.old }
     requires source { (1 ≤ source) × (source ≤ held.old.config.n) }
     requires sender { name.sender ≤ held.old.config.n }
@@ -253,7 +249,7 @@ fn judge_uncertified<A: Allocator + Copy>(
     requires open { has_name held.old.acks.certified name ≡ false }
     ensures kept { IsHeld held.new }
     ensures same { IsSameNode (memory_of held.old) (memory_of held.new) }
-    ensures wanted { IfOk result (λ found. IsFoundIn held.new found) }
+    ensures wanted { IfOk result (λ next. IfSome (continue_value next) (IsWanted held.new)) }
     ensures outcome { Finds (memory_of held.old)
         (counted_outcome (memory_of held.old) source name flags) result (memory_of held.new) }
 {
@@ -263,7 +259,7 @@ fn judge_uncertified<A: Allocator + Copy>(
         held.fifo.reserve(name)?;
         note(&mut held.acks, name, source).unwrap();
         hear_packet(held, source, name, flags);
-        return Ok(Found::New(Wanted {
+        return Ok(ControlFlow::Continue(Wanted {
             entry: Record::Cert(name),
             copy: Record::Cert(name),
             cause: Some(cause_of(source, flags)),
@@ -272,11 +268,11 @@ fn judge_uncertified<A: Allocator + Copy>(
     }
     if is_counted {
         hear_packet(held, source, name, flags);
-        return Ok(Found::Known(Answer::Again(name)));
+        return Ok(ControlFlow::Break(Answer::Again(name)));
     }
     note(&mut held.acks, name, source)?;
     hear_packet(held, source, name, flags);
-    Ok(Found::Known(Answer::Noted(name)))
+    Ok(ControlFlow::Break(Answer::Noted(name)))
 }
 
 // The message that a packet carries: the known message, or a copy from the packet.
@@ -336,14 +332,14 @@ fn judge_certified<A: Allocator + Copy>(
     alloc: A,
     packet: &PacketView<'_>,
     known: Option<Message<A>>,
-) -> Result<Found<A>, Refusal>
+) -> Result<ControlFlow<Answer<Outbox<A>>, Wanted<A>>, Refusal>
     requires kept { IsHeld held.old }
     requires target { packet.now.target ≡ held.old.node }
     requires known { ForSome known (λ m. m ≡ packet.now.message) }
     requires pending { is_some (message_of held.old.pending.pairs packet.now.name) ≡ true }
     ensures kept { IsHeld held.new }
     ensures same { IsSameNode (memory_of held.old) (memory_of held.new) }
-    ensures wanted { IfOk result (λ found. IsFoundIn held.new found) }
+    ensures wanted { IfOk result (λ next. IfSome (continue_value next) (IsWanted held.new)) }
     ensures outcome { Finds (memory_of held.old)
         (certified_outcome
         (hearing (memory_of held.old) packet.now.source packet.now.name packet.now.flags)
@@ -355,12 +351,12 @@ fn judge_certified<A: Allocator + Copy>(
     let flags = packet.flags();
     if !wants_answer(flags) {
         hear_packet(held, source, name, flags);
-        return Ok(Found::Known(Answer::Again(name)));
+        return Ok(ControlFlow::Break(Answer::Again(name)));
     }
     let heard = says_certified(flags) || held.resend.heard(name, source);
     let packets = reply_to(alloc, held.node, packet, known, heard)?;
     hear_packet(held, source, name, flags);
-    Ok(Found::Known(Answer::Answered(name, packets)))
+    Ok(ControlFlow::Break(Answer::Answered(name, packets)))
 }
 
 /// The outcome of a packet at a ready node.
@@ -369,13 +365,13 @@ pub(crate) fn judge_packet<A: Allocator + Copy>(
     alloc: A,
     packet: &PacketView<'_>,
     known: Option<Message<A>>,
-) -> Result<Found<A>, Refusal>
+) -> Result<ControlFlow<Answer<Outbox<A>>, Wanted<A>>, Refusal>
     requires kept { IsHeld held.old }
     requires packet { IsForNode (memory_of held.old) packet.now }
     requires known { ForSome known (λ m. m ≡ packet.now.message) }
     ensures kept { IsHeld held.new }
     ensures same { IsSameNode (memory_of held.old) (memory_of held.new) }
-    ensures wanted { IfOk result (λ found. IsFoundIn held.new found) }
+    ensures wanted { IfOk result (λ next. IfSome (continue_value next) (IsWanted held.new)) }
     ensures outcome { Finds (memory_of held.old)
         (arrive_outcome (memory_of held.old) packet.now.source packet.now.name packet.now.message
         packet.now.flags) result (memory_of held.new) }
@@ -389,7 +385,8 @@ pub(crate) fn judge_packet<A: Allocator + Copy>(
         let message = message_in(alloc, packet, known)?;
         let is_certified = is_majority(2, held.config.n());
         let cause = Some(cause_of(source, flags));
-        return Ok(Found::New(make_wanted(held, alloc, name, message, is_certified, cause)?));
+        let wanted = make_wanted(held, alloc, name, message, is_certified, cause)?;
+        return Ok(ControlFlow::Continue(wanted));
     }
     if held.acks.certified(name) {
         return judge_certified(held, alloc, packet, known);

@@ -2,12 +2,12 @@
 
 ghost use Rattle.std.specs.Prelude.{◌≡◌, length, true};
 ghost use Rattle.urb_names.specs.CyclicOrder.{are_rising};
-ghost use Rattle.urb_names.specs.Pairs.{own};
+ghost use Rattle.urb_names.specs.Pairs.{next_number, own};
 
 use std::alloc::{Allocator, Global};
 use urb_fifo::Fifo;
 use urb_majority::Acks;
-use urb_names::{Config, NodeId};
+use urb_names::{ClientId, Config, NodeId};
 use urb_pending::Pending;
 use urb_stubborn::Resend;
 
@@ -34,5 +34,16 @@ impl<A: Allocator + Copy> Held<A> {
         // Only the proof needs this call: it states the invariant of the pending pairs.
         self.pending.recall();
         self.pending.own_len()
+    }
+
+    /// The number that a client's next message must have, judged by the stored ones.
+    pub(crate) fn client_next(&self, client: ClientId) -> u32
+        ensures value { result
+            ≡ next_number client (own self.now.pending.node self.now.pending.pairs) }
+        ensures rising { are_rising self.now.pending.pairs ≡ true }
+    {
+        // Only the proof needs this call: it states the invariant of the pending pairs.
+        self.pending.recall();
+        self.pending.client_next(client)
     }
 }

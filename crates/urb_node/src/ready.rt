@@ -1,23 +1,25 @@
 //! A node that holds no draft.
 
-ghost use Rattle.std.specs.Prelude.{◌≡◌, ◌≤◌, [], IfErr, IfOk, OnErr, OnOk};
+ghost use Rattle.std.specs.Prelude.{◌≡◌, ◌≤◌, [], IfErr, IfOk, IfSome, OnErr, OnOk};
+ghost use Rattle.std.specs.ControlFlow.{continue_value};
 ghost use Rattle.std.specs.Option.{ForSome};
 ghost use Rattle.urb_names.specs.CarriedPackets.{AreFrom};
 ghost use Rattle.urb_stubborn.specs.Resends.{tick_packets, ticked};
 ghost use Rattle.urb_node.specs.LayerFields.{memory_of};
 ghost use Rattle.urb_node.specs.internal.HeldLayers.{IsHeld};
-ghost use Rattle.urb_node.specs.internal.OutcomeSteps.{IsFoundIn, step_from};
+ghost use Rattle.urb_node.specs.internal.OutcomeSteps.{IsWanted, step_from};
 ghost use Rattle.urb_node.specs.CallEffects.{AnswersFrom, AnswersOfStored, Arrives, AreOfStored, Crashes};
 ghost use Rattle.urb_node.specs.CallEffects.{IsForNode, Submits, Ticks};
 ghost use Rattle.urb_node.specs.Part.{opened_node};
 ghost use Rattle.urb_node.specs.NodeMemories.{ShowsReady, new_memory};
 
-use crate::call_outcomes::{Found, judge_packet, judge_submit};
+use crate::call_outcomes::{Wanted, judge_packet, judge_submit};
 use crate::down::take_down;
 use crate::held::Held;
 use crate::{Answer, Down, Step, Storing};
 use std::alloc::{Allocator, Global};
 use std::marker::Model;
+use std::ops::ControlFlow;
 use urb_fifo::Fifo;
 use urb_majority::Acks;
 use urb_names::{ClientId, Config, Message, NoMemory, NodeId, PacketView, Payload, Refusal};
@@ -44,15 +46,18 @@ impl<A: Allocator> Model for Ready<A> {
     ghost invariant = { λ a. IsHeld a.held };
 }
 
-// The step that follows from a call's outcome.
-fn step_of<A: Allocator + Copy>(held: Held<A>, found: Found<A>) -> Step<A>
+// The step of a call: it breaks off with an answer, or continues with a record to store.
+fn step_of<A: Allocator + Copy>(
+    held: Held<A>,
+    next: ControlFlow<Answer<Outbox<A>>, Wanted<A>>,
+) -> Step<A>
     requires kept { IsHeld held }
-    requires wanted { IsFoundIn held found }
-    ensures { result ≡ step_from (memory_of held) found }
+    requires wanted { IfSome (continue_value next) (IsWanted held) }
+    ensures { result ≡ step_from (memory_of held) next }
 {
-    match found {
-        Found::Known(answer) => Step::Same(Ready { held }, answer),
-        Found::New(wanted) => {
+    match next {
+        ControlFlow::Break(answer) => Step::Same(Ready { held }, answer),
+        ControlFlow::Continue(wanted) => {
             // Only the proof needs these calls: they state the invariants of the layers.
             held.pending.recall();
             held.fifo.recall();
@@ -128,7 +133,7 @@ impl<A: Allocator + Copy> Ready<A> {
         // Only the proof needs this call: it states the invariant of the pending pairs.
         held.pending.recall();
         match judge_submit(&mut held, alloc, client, number, payload) {
-            Ok(found) => Ok(step_of(held, found)),
+            Ok(next) => Ok(step_of(held, next)),
             Err(refusal) => Err((Ready { held }, refusal)),
         }
     }
@@ -160,7 +165,7 @@ impl<A: Allocator + Copy> Ready<A> {
         // of their numbers.
         packet.recall();
         match judge_packet(&mut held, alloc, &packet, known) {
-            Ok(found) => Ok(step_of(held, found)),
+            Ok(next) => Ok(step_of(held, next)),
             Err(refusal) => Err((Ready { held }, refusal)),
         }
     }

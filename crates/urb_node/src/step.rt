@@ -32,9 +32,9 @@ pub struct Done<A: Allocator = Global> {
 }
 
 impl<A: Allocator> Model for Done<A> {
-    ghost use Rattle.urb_node.specs.Replies.{Done as Told};
+    ghost use Rattle.urb_node.specs.Replies.{Done as DoneView};
 
-    ghost Value = { Told };
+    ghost Value = { DoneView };
 
     ghost view = { λ a.
         record { accepted = a.accepted; name = a.name; sent = a.sent; released = a.released } };

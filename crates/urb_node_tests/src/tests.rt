@@ -8,6 +8,7 @@ mod calling;
 mod calls;
 mod forty;
 mod keeping;
+mod numbers;
 mod opening;
 mod packets;
 mod playing;

@@ -102,7 +102,7 @@ take_each test (y ∷ ys) h =
     (h y (or_left (same_name y y) _ (same_name-same y)))
     ∙ ap (λ zs. y ∷ zs) (take_each test ys (λ z e. h z (or_right (same_name y z) _ e))))
 
--- a list of so many numbers in a row has this length
+-- a list of `count` numbers in a row has that length
 pub numbers_length : (first count : ℕ) → length (numbers_from first count) ≡ count
 numbers_length first zero = refl
 numbers_length first (suc count) = ap (λ n. suc n) (numbers_length (suc first) count)

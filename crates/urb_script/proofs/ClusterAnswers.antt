@@ -17,10 +17,10 @@ use Rattle.urb_stable.specs.declared.stable.StoreFault.{StoreFault}
 use Rattle.urb_node.specs.Part.{State, opened_node}
 use Rattle.urb_node.specs.Replies.{Refused, Reply}
 use Rattle.urb_node.specs.Steps.{is_down}
-use Rattle.urb_group.specs.MemoryStores.{in_memory}
-use Rattle.urb_group.specs.Scenes.{Scene, flags_with, or_nothing}
-use Rattle.urb_group.specs.Step.{Arrive, Crash, Event, Submit, Tick}
-use Rattle.urb_group.specs.Step as event
+use Rattle.urb_world.specs.MemoryStores.{in_memory}
+use Rattle.urb_world.specs.Scenes.{Scene, flags_with, or_nothing}
+use Rattle.urb_world.specs.Step.{Arrive, Crash, Event, Submit, Tick}
+use Rattle.urb_world.specs.Step as event
 use Rattle.urb_group.specs.StoreQuestions.{Gives}
 use Rattle.urb_group.specs.GroupStores.{Clustered, held_draft}
 use Rattle.urb_group.specs.ClusterCalls.{Alone, Applies, Breaks, FailsHeld, RestartsBy, Returns}
@@ -33,7 +33,7 @@ use Rattle.urb_script.specs.Texts.{reply_text, told_text}
 use Rattle.std.specs.List.{All}
 use Rattle.std.proofs.lemmas.Option.{slice_get_within}
 use Rattle.urb_group.specs.GroupViews.{Shows}
-use Rattle.urb_group.specs.World.{started}
+use Rattle.urb_world.specs.World.{started}
 use Rattle.urb_script.specs.declared.answer_words.FixedAnswer.TheVariants as told
 use Rattle.urb_names.specs.CarriedPackets.{Carried}
 use Rattle.urb_names.specs.declared.refusal.PacketFault.{PacketFault}

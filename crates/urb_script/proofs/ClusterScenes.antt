@@ -21,12 +21,12 @@ use Rattle.urb_node.specs.Steps.{commits, done, doubt, fails, goes_down, is_down
 use Rattle.urb_node.specs.Steps.{next_position, restarts, restarts_with, same_record}
 use Rattle.urb_node.proofs.RestartReplies.{same_record-same}
 use Rattle.urb_group.specs.GroupCalls.{Steps}
-use Rattle.urb_group.specs.Scenes.{Scene, held_by, receipt}
+use Rattle.urb_world.specs.Scenes.{Scene, held_by, receipt}
 use Rattle.urb_group.specs.GroupViews.{GroupView, Shows, view_of}
-use Rattle.urb_group.specs.Step.{Commit, Event, Fail, Restart, at_node, step, world_after}
-use Rattle.urb_group.specs.World.{World, updated}
-use Rattle.urb_group.proofs.steps.OneNodeStep.{updated-at}
-use Rattle.urb_group.proofs.safety.Refusals.{refused-stays}
+use Rattle.urb_world.specs.Step.{Commit, Event, Fail, Restart, at_node, step, world_after}
+use Rattle.urb_world.specs.World.{World, updated}
+use Rattle.urb_world.proofs.steps.OneNodeStep.{updated-at}
+use Rattle.urb_world.proofs.safety.Refusals.{refused-stays}
 use Rattle.urb_group.specs.GroupStores.{Clustered, held_draft, held_in}
 use Rattle.urb_group.specs.ClusterCalls.{Reacts, StoreMoves}
 use Rattle.urb_script.specs.Commands as command
@@ -36,7 +36,7 @@ use Rattle.urb_script.specs.Texts.{reply_text}
 use Rattle.urb_script.proofs.SceneSteps.{IsQuiet, kept_held, lost_held, quiet_step, restart_with}
 use Rattle.urb_script.proofs.SceneSteps.{stored_held}
 use Rattle.urb_node.specs.declared.cause.Cause.{Cause}
-use Rattle.urb_group.proofs.steps.DraftsInSteps.{step-size}
+use Rattle.urb_world.proofs.steps.DraftsInSteps.{step-size}
 use Rattle.urb_group.proofs.stops.NodeStoreInvariant.{down-in}
 use Rattle.urb_script.proofs.ReopenedClusters.{some_same}
 

@@ -7,7 +7,7 @@
 -- So an applied command has the answer of the scene, and the next scene is shown (`applies_from`).
 -- The laws of all scripts come last: one outcome if no store is refused memory (`one_outcome`), and
 -- what logs show (`logs_are_safe`, `logs_agree`). They use that each line keeps the rules of a
--- scene (`takes_kept`), and the safety of worlds, which `urb_group` proves.
+-- scene (`takes_kept`), and the safety of worlds, which `urb_world` proves.
 pub mod ClusterAnswers
 pub mod HexWords
 pub mod LogLaws

@@ -13,15 +13,15 @@ use Rattle.urb_stable.specs.DeliveredLogs.{entries, entries_of, log}
 use Rattle.urb_stable.specs.Records.{pend}
 use Rattle.urb_stable.specs.declared.fitting.Misfit.{Misfit}
 use Rattle.urb_stable.specs.declared.memory.Failure.TheVariants.{Old, New}
-use Rattle.urb_group.proofs.safety.AgreeingLogs.{agree-now, both_begin, entries-all_grow}
-use Rattle.urb_group.proofs.steps.Growth.{begins-itself, begins-trans, step-goes_on}
-use Rattle.urb_group.proofs.safety.SafeWorlds.{safe}
-use Rattle.urb_group.proofs.stops.StoppedWorlds.{survives}
-use Rattle.urb_group.specs.RunMoments.{EntriesGrow}
-use Rattle.urb_group.specs.SafetyProperties.{Safe}
-use Rattle.urb_group.specs.Scenes.{Scene}
-use Rattle.urb_group.specs.Step.{Event, step}
-use Rattle.urb_group.specs.World.{World, stored}
+use Rattle.urb_world.proofs.safety.AgreeingLogs.{agree-now, both_begin, entries-all_grow}
+use Rattle.urb_world.proofs.steps.Growth.{begins-itself, begins-trans, step-goes_on}
+use Rattle.urb_world.proofs.safety.SafeWorlds.{safe}
+use Rattle.urb_world.proofs.stops.StoppedWorlds.{survives}
+use Rattle.urb_world.specs.RunMoments.{EntriesGrow}
+use Rattle.urb_world.specs.SafetyProperties.{Safe}
+use Rattle.urb_world.specs.Scenes.{Scene}
+use Rattle.urb_world.specs.Step.{Event, step}
+use Rattle.urb_world.specs.World.{World, stored}
 use Rattle.urb_script.specs.Commands.{Arrive, ArriveFlagged, Command, Crash, Fail, Group, Held, Log}
 use Rattle.urb_script.specs.Commands.{Raw, Reopen, Restart, Spells, Stored, Submit, Tick}
 use Rattle.urb_script.specs.LogLines.{LogsAgree, LogsAreSafe}

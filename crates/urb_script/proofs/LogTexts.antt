@@ -14,7 +14,7 @@ use Rattle.urb_stable.specs.DeliveredLogs.{entries, log}
 use Rattle.urb_stable.specs.Records.{pend}
 use Rattle.urb_group.specs.GroupCalls.{Holds, TellsLog}
 use Rattle.urb_group.specs.GroupViews.{GroupView, Shows}
-use Rattle.urb_group.specs.World.{World, stored}
+use Rattle.urb_world.specs.World.{World, stored}
 use Rattle.urb_script.specs.internal.ShownScenes.{TellsAt, TellsOf}
 use Rattle.urb_script.specs.Steps.{bad_node, shown_log}
 use Rattle.urb_script.specs.Texts.{entry_text, log_text}

@@ -18,7 +18,7 @@ use Rattle.urb_script.specs.ValueWords.{IsNodeNumber, HasWord, payload_word, fai
 use Rattle.urb_script.proofs.HexWords.{same_bytes}
 use Rattle.urb_script.proofs.NameWords.{name_sender, name_seq}
 use Rattle.urb_script.proofs.Spellings.{test}
-use Rattle.urb_group.specs.Scenes.{Scene}
+use Rattle.urb_world.specs.Scenes.{Scene}
 use Rattle.urb_script.specs.Commands.{Command, Group, Submit, Stored, Fail, Crash, Restart, Arrive}
 use Rattle.urb_script.specs.Commands.{ArriveFlagged, IsRoute, Raw, Tick, Log, Held, Reopen, keyword}
 use Rattle.urb_script.specs.Commands.{AreArguments, IsSpelled, InRange, Spells}

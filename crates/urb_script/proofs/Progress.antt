@@ -14,7 +14,7 @@ use Rattle.urb_script.specs.declared.runs.RunFault.{RunFault}
 use Rattle.urb_script.specs.declared.runs.RunFault.TheVariants as faults
 use Rattle.urb_names.specs.LabelsAndContents.{Limits}
 use Rattle.urb_script.specs.Commands.{Command, Group, Spells}
-use Rattle.urb_group.specs.Scenes.{Scene}
+use Rattle.urb_world.specs.Scenes.{Scene}
 use Rattle.urb_script.specs.Steps.{Takes}
 use Rattle.urb_script.specs.Scripts.{Answers, IsBad, bad_line, WholeScript, StopsAfter, BrokenOff}
 use Rattle.urb_script.specs.Scripts.{BreaksOff}

@@ -17,12 +17,12 @@ use Rattle.urb_node.specs.Part.{opened_node}
 use Rattle.urb_group.specs.StoreQuestions.{Gives}
 use Rattle.urb_group.specs.GroupStores.{Clustered}
 use Rattle.urb_group.specs.GroupCalls.{Opens}
-use Rattle.urb_group.specs.MemoryStores.{in_memory}
+use Rattle.urb_world.specs.MemoryStores.{in_memory}
 use Rattle.urb_group.specs.StoreOpenings.{AllGive, OpensFrom, OpensGiven}
-use Rattle.urb_group.specs.Scenes.{Scene}
+use Rattle.urb_world.specs.Scenes.{Scene}
 use Rattle.urb_group.specs.GroupViews.{Shows}
-use Rattle.urb_group.specs.StartLimits.{MayStartWith}
-use Rattle.urb_group.specs.World.{World, image_of, opened}
+use Rattle.urb_world.specs.StartLimits.{MayStartWith}
+use Rattle.urb_world.specs.World.{World, image_of, opened}
 use Rattle.urb_script.specs.Commands.{Reopen}
 use Rattle.urb_script.specs.internal.CommandLines.{command}
 use Rattle.urb_script.specs.declared.commands.CommandLine.{CommandLine}
@@ -32,7 +32,7 @@ use Rattle.urb_script.specs.internal.ShownScenes.{IsHeldBy, ShowsScene}
 use Rattle.urb_script.specs.Steps.{Takes, reopens}
 use Rattle.urb_script.specs.Texts.{told_text}
 use Rattle.urb_script.specs.declared.answer_words.FixedAnswer.TheVariants as told
-use Rattle.urb_group.proofs.steps.Runs.{past_end}
+use Rattle.urb_world.proofs.steps.Runs.{past_end}
 use Rattle.urb_names.proofs.Places.{get_some}
 
 -- values are the same if they are so as options

@@ -16,15 +16,15 @@ use Rattle.urb_node.specs.Part.{Down, Node, Ready, State, Storing}
 use Rattle.urb_node.specs.Replies.{Refused, Reply}
 use Rattle.urb_node.specs.Steps.{commits, doubt, fails, goes_down, is_down, keeps_record}
 use Rattle.urb_node.specs.Steps.{restarts_with}
-use Rattle.urb_group.proofs.steps.OneNodeStep.{updated-at}
-use Rattle.urb_group.proofs.steps.Runs.{new-kept, opened-keeps, run-kept}
-use Rattle.urb_group.proofs.steps.ShortPayloads.{opened-short, short-append}
-use Rattle.urb_group.proofs.stops.StoppedWorlds.{left-kept}
-use Rattle.urb_group.specs.RunInvariant.{AreShort, DoubtShort, IsKept}
-use Rattle.urb_group.specs.Scenes.{Scene, held_by, receipt}
-use Rattle.urb_group.specs.Step.{Arrive, Commit, Crash, Event, Fail, Restart, Submit, Tick, at_node}
-use Rattle.urb_group.specs.Step.{run, step, world_after}
-use Rattle.urb_group.specs.World.{World, stored, updated}
+use Rattle.urb_world.proofs.steps.OneNodeStep.{updated-at}
+use Rattle.urb_world.proofs.steps.Runs.{new-kept, opened-keeps, run-kept}
+use Rattle.urb_world.proofs.steps.ShortPayloads.{opened-short, short-append}
+use Rattle.urb_world.proofs.stops.StoppedWorlds.{left-kept}
+use Rattle.urb_world.specs.RunInvariant.{AreShort, DoubtShort, IsKept}
+use Rattle.urb_world.specs.Scenes.{Scene, held_by, receipt}
+use Rattle.urb_world.specs.Step.{Arrive, Commit, Crash, Event, Fail, Restart, Submit, Tick, at_node}
+use Rattle.urb_world.specs.Step.{run, step, world_after}
+use Rattle.urb_world.specs.World.{World, stored, updated}
 use Rattle.urb_script.specs.Commands as command
 use Rattle.urb_script.specs.Commands.{Command, Group}
 use Rattle.urb_script.specs.Scripts.{Answers}
@@ -34,9 +34,9 @@ use Rattle.urb_script.proofs.SceneSteps.{IsQuiet, kept_held, quiet_step, restart
 use Rattle.urb_script.proofs.ClusterScenes.{commit_node, elsewhere, fail_node, restart_node}
 use Rattle.urb_script.proofs.ClusterScenes.{restart_stays}
 use Rattle.urb_node.specs.declared.cause.Cause.{Cause}
-use Rattle.urb_group.proofs.steps.StepCases.{outcome_of, step-cases}
-use Rattle.urb_group.specs.DeliveredMessages.{event_node}
-use Rattle.urb_group.proofs.steps.DraftsInSteps.{step-size}
+use Rattle.urb_world.proofs.steps.StepCases.{outcome_of, step-cases}
+use Rattle.urb_world.specs.EventEffects.{event_node}
+use Rattle.urb_world.proofs.steps.DraftsInSteps.{step-size}
 
 -- The world meets its rules. Each storage is what some store of its node may hold. A number that is
 -- no node is idle.

@@ -13,13 +13,13 @@ use Rattle.urb_node.specs.Part.{Down, Node, State}
 use Rattle.urb_node.specs.Replies.{Reply}
 use Rattle.urb_node.specs.Steps.{broadcast_after, comes_up, doubt, is_down, keeps_record}
 use Rattle.urb_node.specs.Steps.{restarts_with, same_list, same_names, same_pairs, says, takes}
-use Rattle.urb_group.specs.World.{World}
-use Rattle.urb_group.specs.Step.{Arrive, Commit, Crash, Event, Fail, Restart, Submit, Tick, step}
+use Rattle.urb_world.specs.World.{World}
+use Rattle.urb_world.specs.Step.{Arrive, Commit, Crash, Event, Fail, Restart, Submit, Tick, step}
 use Rattle.urb_script.specs.internal.ShownScenes.{IsHeldBy}
 use Rattle.urb_node.specs.declared.cause.Cause.{Cause}
-use Rattle.urb_group.proofs.steps.StepCases.{OutcomeCases, node_of, outcome-cases, step-nodes}
-use Rattle.urb_group.proofs.steps.ArrivalCases.{arrive-cases}
-use Rattle.urb_group.specs.DeliveredMessages.{event_node}
+use Rattle.urb_world.proofs.steps.StepCases.{OutcomeCases, node_of, outcome-cases, step-nodes}
+use Rattle.urb_world.proofs.steps.ArrivalCases.{arrive-cases}
+use Rattle.urb_world.specs.EventEffects.{event_node}
 
 -- ---- events that leave storage as it is
 

@@ -2,9 +2,9 @@
 use Rattle.std.specs.Prelude.{◌≡◌, ℕ, List, ◌∷◌, ◌++◌, Option, Some, None}
 use Rattle.urb_names.specs.ListPrefixes.{OneBegins}
 use Rattle.urb_stable.specs.DeliveredLogs.{entries_of}
-use Rattle.urb_group.specs.SafetyProperties.{Safe}
-use Rattle.urb_group.specs.Scenes.{Scene}
-use Rattle.urb_group.specs.World.{stored}
+use Rattle.urb_world.specs.SafetyProperties.{Safe}
+use Rattle.urb_world.specs.Scenes.{Scene}
+use Rattle.urb_world.specs.World.{stored}
 use Rattle.urb_script.specs.Commands.{Log, Spells}
 use Rattle.urb_script.specs.Scripts.{Answers}
 use Rattle.urb_script.specs.Steps.{Takes, shown_log}

@@ -4,8 +4,8 @@ use Rattle.std.specs.Fmt.{decimal}
 use Rattle.std.specs.Io.KnownBytes.{Appends}
 use Rattle.urb_script.specs.Lines.{lines_of, IsPlain, IsOneLine}
 use Rattle.urb_script.specs.Commands.{Command, Spells}
-use Rattle.urb_group.specs.SafetyProperties.{Safe}
-use Rattle.urb_group.specs.Scenes.{Scene}
+use Rattle.urb_world.specs.SafetyProperties.{Safe}
+use Rattle.urb_world.specs.Scenes.{Scene}
 use Rattle.urb_script.specs.Steps.{Plays, Takes, MayCome}
 use Rattle.urb_script.specs.declared.runs.RunEnd.{RunEnd}
 use Rattle.urb_script.specs.declared.runs.RunEnd.TheVariants.{Whole, BadLine}

@@ -13,10 +13,10 @@ use Rattle.urb_stable.specs.Fitting.{first_misfit}
 use Rattle.urb_stable.specs.Records.{pend}
 use Rattle.urb_stable.specs.declared.fitting.Misfit.{Misfit}
 use Rattle.urb_stable.specs.declared.memory.Failure.TheVariants.{Old, New}
-use Rattle.urb_group.specs.World.{World, opened, started, stored}
-use Rattle.urb_group.specs.Step.{Event, step}
-use Rattle.urb_group.specs.Step as event
-use Rattle.urb_group.specs.Scenes.{Scene, flags_with, keeping, or_nothing, receipt}
+use Rattle.urb_world.specs.World.{World, opened, started, stored}
+use Rattle.urb_world.specs.Step.{Event, step}
+use Rattle.urb_world.specs.Step as event
+use Rattle.urb_world.specs.Scenes.{Scene, flags_with, keeping, or_nothing, receipt}
 use Rattle.urb_script.specs.Commands.{Command, Group, Submit, Stored, Fail, Crash, Restart, Arrive}
 use Rattle.urb_script.specs.Commands.{ArriveFlagged, Raw, Tick, Log, Held, Reopen}
 use Rattle.urb_script.specs.Texts.{told_text, reply_text, log_text, held_text}

@@ -4,7 +4,7 @@ ghost use Rattle.std.specs.Prelude.{◌≡◌, [], Some, None, IfOk, IfErr, OnOk
 ghost use Rattle.std.specs.Io.KnownBytes.{Appends};
 ghost use Rattle.urb_script.specs.Commands.{Group, InRange};
 ghost use Rattle.urb_script.specs.internal.CommandLines.{command};
-ghost use Rattle.urb_group.specs.Scenes.{Scene};
+ghost use Rattle.urb_world.specs.Scenes.{Scene};
 ghost use Rattle.urb_script.specs.Steps.{IsLater, Takes};
 ghost use Rattle.urb_script.specs.LogLines.{LogsAgree, LogsAreSafe};
 ghost use Rattle.urb_script.specs.Scripts.{WholeScript, BreaksOff, StaysSafe, HasOneOutcome};

@@ -1,16 +1,16 @@
 -- What a node has stored at one place of the history is what every page shows at any other.
 use Rattle.std.proofs.Common.{Contains, List, Option, Some, [], ap, arith, map, refl, subst, suc}
 use Rattle.std.proofs.Common.{sym, true, zero, ℕ, ⊎_elim, ◌∙◌, ◌∷◌, ◌≡◌}
-use Rattle.urb_group.proofs.safety.SafeWorlds.{one_message}
+use Rattle.urb_world.proofs.safety.SafeWorlds.{one_message}
 use Rattle.urb_group.proofs.shown.AgreeingWorlds.{sound-kept}
-use Rattle.urb_group.proofs.steps.Growth.{run-goes_on}
-use Rattle.urb_group.proofs.steps.Runs.{run-kept}
-use Rattle.urb_group.specs.Acceptance.{HasStored}
+use Rattle.urb_world.proofs.steps.Growth.{run-goes_on}
+use Rattle.urb_world.proofs.steps.Runs.{run-kept}
+use Rattle.urb_world.specs.Acceptance.{HasStored}
 use Rattle.urb_group.specs.GroupViews.{GroupView, IsSound, Shows}
-use Rattle.urb_group.specs.RecoveryPlans.{after}
-use Rattle.urb_group.specs.RunInvariant.{IsKept}
-use Rattle.urb_group.specs.Step.{Event, run}
-use Rattle.urb_group.specs.World.{World, stored}
+use Rattle.urb_world.specs.RecoveryPlans.{after}
+use Rattle.urb_world.specs.RunInvariant.{IsKept}
+use Rattle.urb_world.specs.Step.{Event, run}
+use Rattle.urb_world.specs.World.{World, stored}
 use Rattle.urb_names.proofs.FoundPairs.{has_pair-found, has_pair-left}
 use Rattle.urb_names.specs.LabelsAndContents.{Content, Label}
 use Rattle.urb_names.specs.ListPrefixes.{OneBegins}
@@ -24,7 +24,7 @@ use Rattle.urb_show.specs.DeliveredLists.{AreDeliveredBy, HaveDelivered, in_log}
 use Rattle.urb_show.specs.Lists.{Lists, list_at}
 use Rattle.urb_show.specs.declared.entry.Entry.{Entry}
 use mathlib.Core.List.{IsPrefix}
-use Rattle.urb_group.proofs.recovery.EventPlans.{after-append}
+use Rattle.urb_world.proofs.recovery.EventPlans.{after-append}
 
 -- the entries of a log have the messages that the records hold
 found_in : (records : List Record) (xs : List Label) (y : Label) (o : Option Content)

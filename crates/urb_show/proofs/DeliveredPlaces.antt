@@ -1,14 +1,14 @@
 -- What the nodes have delivered at a place of the history, and at each later place.
 use Rattle.std.proofs.Common.{List, Option, [], ap, map, refl, subst, suc, sym, ◌∙◌, ◌∷◌, ◌≡◌}
-use Rattle.urb_group.proofs.safety.RunsOfKeptWorlds.{kept-grow}
+use Rattle.urb_world.proofs.safety.RunsOfKeptWorlds.{kept-grow}
 use Rattle.urb_group.proofs.shown.AgreeingWorlds.{sound-kept}
 use Rattle.urb_group.proofs.shown.Deliveries.{deliveries-known}
-use Rattle.urb_group.proofs.steps.Runs.{run-kept}
+use Rattle.urb_world.proofs.steps.Runs.{run-kept}
 use Rattle.urb_group.specs.DeliveredMessages.{Delivery, delivered_at, known}
 use Rattle.urb_group.specs.GroupViews.{GroupView, IsSound, Shows}
-use Rattle.urb_group.specs.RecoveryPlans.{after}
-use Rattle.urb_group.specs.Step.{Event, run}
-use Rattle.urb_group.specs.World.{World, stored}
+use Rattle.urb_world.specs.RecoveryPlans.{after}
+use Rattle.urb_world.specs.Step.{Event, run}
+use Rattle.urb_world.specs.World.{World, stored}
 use Rattle.urb_names.specs.LabelsAndContents.{Content, Label}
 use Rattle.urb_stable.specs.DeliveredLogs.{entries}
 use Rattle.urb_show.proofs.AgreeingLists.{begins_at, map_prefix}
@@ -20,7 +20,7 @@ use Rattle.urb_show.specs.DeliveredLists.{AreDeliveredBy, HaveDelivered, in_log}
 use Rattle.urb_show.specs.Lists.{Begins, Lists, entry_of, list_at, lists_in}
 use Rattle.urb_show.specs.Pasts.{IsLedTo}
 use mathlib.Core.List.{IsPrefix}
-use Rattle.urb_group.proofs.recovery.EventPlans.{after-append}
+use Rattle.urb_world.proofs.recovery.EventPlans.{after-append}
 
 as_known : (list : List Delivery) → map in_log (map entry_of list) ≡ map known list
 as_known [] = refl

@@ -1,13 +1,13 @@
 -- The lists of a group: the list at a place, that the lists agree, and what an event does to them.
 use Rattle.std.proofs.Common.{Err, List, Ok, Result, [], ap, arith, length, map, refl}
 use Rattle.std.proofs.Common.{slice_index_or, subst, suc, sym, zero, ℕ, ◌-◌, ◌<◌, ◌∙◌, ◌∷◌, ◌≡◌}
-use Rattle.urb_group.proofs.steps.DraftsInSteps.{step-size}
+use Rattle.urb_world.proofs.steps.DraftsInSteps.{step-size}
 use Rattle.urb_group.proofs.shown.Deliveries.{deliveries-grow, sound-after}
 use Rattle.urb_group.specs.GroupCalls.{ComesUp, Commits, GoesDown, Takes, Ticks}
 use Rattle.urb_group.specs.DeliveredMessages.{Agree as AgreeAll, Delivery, Follows, deliveries}
 use Rattle.urb_group.specs.DeliveredMessages.{delivered_at, sent_by}
 use Rattle.urb_group.specs.GroupViews.{GroupView, IsSound}
-use Rattle.urb_group.specs.Step.{Commit, Event}
+use Rattle.urb_world.specs.Step.{Commit, Event}
 use Rattle.urb_group.specs.declared.taken.Taken.TheVariants as taken
 use Rattle.urb_group.specs.declared.taken.Taken.{Taken}
 use Rattle.urb_names.specs.ListPrefixes.{OneBegins}

@@ -8,7 +8,7 @@ use Rattle.urb_group.proofs.shown.Deliveries.{deliveries-known, length-known}
 use Rattle.urb_group.specs.GroupCalls.{FindsMessage, TellsLog}
 use Rattle.urb_group.specs.DeliveredMessages.{Agree as AgreeAll, Delivery, delivered_at, known}
 use Rattle.urb_group.specs.GroupViews.{GroupView, IsSound}
-use Rattle.urb_group.specs.World.{World, stored}
+use Rattle.urb_world.specs.World.{World, stored}
 use Rattle.urb_names.specs.LabelsAndContents.{Content, Label}
 use Rattle.urb_names.specs.Nodes.{is_node}
 use Rattle.urb_names.specs.Pairs.{message_of}

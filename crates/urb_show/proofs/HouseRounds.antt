@@ -1,11 +1,11 @@
 -- The end of a house's past, as the last ones of its events.
 use Rattle.std.proofs.Common.{List, subst, ◌++◌, ◌∙◌}
 use Rattle.urb_group.specs.GroupViews.{GroupView, Shows}
-use Rattle.urb_group.specs.RecoveryPlans.{after}
-use Rattle.urb_group.specs.Step.{Event}
-use Rattle.urb_group.specs.World.{World}
+use Rattle.urb_world.specs.RecoveryPlans.{after}
+use Rattle.urb_world.specs.Step.{Event}
+use Rattle.urb_world.specs.World.{World}
 use Rattle.urb_show.specs.Pasts.{IsLedTo}
-use Rattle.urb_group.proofs.recovery.EventPlans.{after-append}
+use Rattle.urb_world.proofs.recovery.EventPlans.{after-append}
 
 module _ (opened group : GroupView) (w : World) (shows : Shows opened w) (before : List Event) where
   -- a house whose last events are these two lists shows the world after both

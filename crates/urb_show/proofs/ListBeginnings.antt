@@ -7,7 +7,7 @@ use Rattle.urb_show.specs.declared.entry.Entry.{Entry}
 use Rattle.urb_show.specs.declared.entry.Addition.{Addition}
 use Rattle.urb_show.specs.Lists.{Agree, Begins, Lists, OneBeginsAll, add_at}
 use Rattle.urb_group.specs.GroupViews.{GroupView}
-use Rattle.urb_group.specs.Step.{Event}
+use Rattle.urb_world.specs.Step.{Event}
 use Rattle.urb_show.specs.DeliveredLists.{AreDeliveredBy}
 use Rattle.urb_show.specs.Readers.{Learns, ReaderView, Takes}
 use Rattle.urb_show.specs.Additions.{lists_of}

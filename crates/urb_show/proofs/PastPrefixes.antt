@@ -2,7 +2,7 @@
 use Rattle.std.proofs.Common.{IsTrue, List, [], ap, append_assoc, arith, false, length, refl, sym}
 use Rattle.std.proofs.Common.{true, ◌++◌, ◌<◌, ◌∙◌, ◌∷◌, ◌≡◌, ◌↔◌}
 use Rattle.std.proofs.lemmas.List.{append-nil}
-use Rattle.urb_group.specs.Step.{Event}
+use Rattle.urb_world.specs.Step.{Event}
 use Rattle.urb_show.proofs.Prefixes.{prefix_length}
 use Rattle.urb_show.specs.internal.Pasts.{event_at}
 use mathlib.Core.List.{IsPrefix}

@@ -2,17 +2,17 @@
 use Rattle.std.proofs.Common.{Bool, List, Option, [], ap, filter, inl, inr, map, refl}
 use Rattle.std.proofs.Common.{subst, suc, sym, ℕ, ⊎_elim, ◌==◌, ◌∙◌, ◌∷◌, ◌≡◌}
 use Rattle.std.proofs.lemmas.List.Elements.{filter-append}
-use Rattle.urb_group.proofs.safety.AgreeingLogs.{agree-now}
-use Rattle.urb_group.proofs.safety.SafeWorlds.{safe}
+use Rattle.urb_world.proofs.safety.AgreeingLogs.{agree-now}
+use Rattle.urb_world.proofs.safety.SafeWorlds.{safe}
 use Rattle.urb_group.proofs.shown.AgreeingWorlds.{sound-kept}
 use Rattle.urb_group.proofs.shown.Deliveries.{known-begins}
-use Rattle.urb_group.proofs.steps.Runs.{run-kept}
+use Rattle.urb_world.proofs.steps.Runs.{run-kept}
 use Rattle.urb_group.specs.DeliveredMessages.{Delivery, known, sent_by}
 use Rattle.urb_group.specs.GroupViews.{GroupView, IsSound}
-use Rattle.urb_group.specs.RecoveryPlans.{after}
-use Rattle.urb_group.specs.SafetyProperties.{Safe}
-use Rattle.urb_group.specs.Step.{Event}
-use Rattle.urb_group.specs.World.{World, stored}
+use Rattle.urb_world.specs.RecoveryPlans.{after}
+use Rattle.urb_world.specs.SafetyProperties.{Safe}
+use Rattle.urb_world.specs.Step.{Event}
+use Rattle.urb_world.specs.World.{World, stored}
 use Rattle.urb_names.specs.LabelsAndContents.{Content, Label}
 use Rattle.urb_names.specs.ListPrefixes.{OneBegins}
 use Rattle.urb_names.specs.Pairs.{message_of}

@@ -6,11 +6,11 @@ use Rattle.std.proofs.Common.{true, zero, ℕ, ◌++◌, ◌+◌, ◌-◌, ◌==
 use Rattle.std.proofs.lemmas.Bool.{cond-true, or_left, or_right}
 use Rattle.std.proofs.lemmas.List.{length-map}
 use Rattle.std.proofs.lemmas.List.Elements.{filter-append}
-use Rattle.urb_group.proofs.safety.SafeWorlds.{safe}
-use Rattle.urb_group.proofs.steps.DraftedRecords.{to_sender}
-use Rattle.urb_group.proofs.steps.Runs.{all_kept}
-use Rattle.urb_group.specs.RunInvariant.{NodesKept}
-use Rattle.urb_group.specs.World.{World, stored}
+use Rattle.urb_world.proofs.safety.SafeWorlds.{safe}
+use Rattle.urb_world.proofs.steps.DraftedRecords.{to_sender}
+use Rattle.urb_world.proofs.steps.Runs.{all_kept}
+use Rattle.urb_world.specs.RunInvariant.{NodesKept}
+use Rattle.urb_world.specs.World.{World, stored}
 use Rattle.urb_names.proofs.FoundPairs.{has_pair-found}
 use Rattle.urb_names.proofs.SameNames.{same_name-same}
 use Rattle.urb_names.specs.LabelsAndContents.{Content, Label}

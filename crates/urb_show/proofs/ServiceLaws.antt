@@ -5,21 +5,21 @@ use Rattle.std.proofs.Common.{append-nil}
 use Rattle.std.proofs.Common.{eqb-true, false, inl, inr, is_none, ne_eqb, refl, subst}
 use Rattle.std.proofs.Common.{sym, true, ℕ, ◌++◌, ◌==◌, ◌∙◌, ◌∷◌, ◌≡◌}
 use Rattle.std.proofs.lemmas.Bool.{cond-true, false≢true}
-use Rattle.urb_group.proofs.steps.ConfirmedPackets.{borne-pair}
-use Rattle.urb_group.proofs.steps.DraftedRecords.{AllKept, to_sender}
-use Rattle.urb_group.proofs.steps.DraftsInSteps.{step-elsewhere, step-size}
-use Rattle.urb_group.proofs.steps.Growth.{step-goes_on}
-use Rattle.urb_group.proofs.steps.OneNodeStep.{updated-at}
-use Rattle.urb_group.proofs.steps.Runs.{all_kept, opened-keeps, step-keeps}
-use Rattle.urb_group.proofs.steps.StepCases.{IsNoArrival, outcome_of, packet-cases, step-here}
-use Rattle.urb_group.proofs.steps.StepCases.{step-cases, step-outcome}
-use Rattle.urb_group.proofs.stops.StoppedWorlds.{left-kept, survives}
-use Rattle.urb_group.specs.DeliveredMessages.{event_node}
-use Rattle.urb_group.specs.ProcessStops.{MayLeave}
-use Rattle.urb_group.specs.RunInvariant.{IsKept, NodesKept, StateKept}
-use Rattle.urb_group.specs.Step.{Arrive, Commit, Crash, Event, Fail, Restart, Submit, Tick}
-use Rattle.urb_group.specs.Step.{step, world_after}
-use Rattle.urb_group.specs.World.{World, opened, stored, truthful}
+use Rattle.urb_world.proofs.steps.ConfirmedPackets.{borne-pair}
+use Rattle.urb_world.proofs.steps.DraftedRecords.{AllKept, to_sender}
+use Rattle.urb_world.proofs.steps.DraftsInSteps.{step-elsewhere, step-size}
+use Rattle.urb_world.proofs.steps.Growth.{step-goes_on}
+use Rattle.urb_world.proofs.steps.OneNodeStep.{updated-at}
+use Rattle.urb_world.proofs.steps.Runs.{all_kept, opened-keeps, step-keeps}
+use Rattle.urb_world.proofs.steps.StepCases.{IsNoArrival, outcome_of, packet-cases, step-here}
+use Rattle.urb_world.proofs.steps.StepCases.{step-cases, step-outcome}
+use Rattle.urb_world.proofs.stops.StoppedWorlds.{left-kept, survives}
+use Rattle.urb_world.specs.EventEffects.{event_node}
+use Rattle.urb_world.specs.ProcessStops.{MayLeave}
+use Rattle.urb_world.specs.RunInvariant.{IsKept, NodesKept, StateKept}
+use Rattle.urb_world.specs.Step.{Arrive, Commit, Crash, Event, Fail, Restart, Submit, Tick}
+use Rattle.urb_world.specs.Step.{step, world_after}
+use Rattle.urb_world.specs.World.{World, opened, stored, truthful}
 use Rattle.urb_names.proofs.FoundPairs.{no_pair, none_found, own-append}
 use Rattle.urb_names.specs.CarriedPackets.{Carried}
 use Rattle.urb_names.specs.LabelsAndContents.{Content, Limits}

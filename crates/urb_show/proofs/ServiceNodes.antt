@@ -4,7 +4,7 @@ use Rattle.std.proofs.Common.{cond, eq-eqb, eqb-true, false, find, inl, inr, is_
 use Rattle.std.proofs.Common.{nat_lt, not, refl, subst, suc, sym, true, ℕ, ◌&&◌, ◌++◌, ◌==◌, ◌∙◌}
 use Rattle.std.proofs.Common.{◌||◌, ◌∷◌, ◌≡◌}
 use Rattle.std.proofs.lemmas.Bool.{and_parts, cond-true, cond_both}
-use Rattle.urb_group.proofs.steps.ArrivalCases.{any-heard, told_node}
+use Rattle.urb_world.proofs.steps.ArrivalCases.{any-heard, told_node}
 use Rattle.urb_group.specs.ReportedStates.{state_of}
 use Rattle.urb_group.specs.declared.state.State.TheVariants as state
 use Rattle.urb_names.specs.Acknowledgements.{acked, with_ack}

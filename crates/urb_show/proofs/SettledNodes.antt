@@ -1,7 +1,7 @@
 -- Publishing what was prepared settles the node.
 use Rattle.std.proofs.Common.{◌≡◌, ℕ, ◌≤◌, sym, ap, subst, ◌∙◌, length, Result, Ok, Err}
 use Rattle.std.proofs.Common.{List, MatchResult}
-use Rattle.urb_group.specs.Step.{Event}
+use Rattle.urb_world.specs.Step.{Event}
 use Rattle.urb_show.specs.Lists.{Begins, Lists, list_at, lists_in}
 use Rattle.urb_show.specs.Houses.{HouseView, Grew, Settled}
 use Rattle.urb_show.specs.Readers.{ToldView}

@@ -1,6 +1,6 @@
 -- What a reader takes of a published value.
 use Rattle.std.proofs.Common.{List, ap, subst, ◌∙◌, ◌≡◌}
-use Rattle.urb_group.specs.Step.{Event}
+use Rattle.urb_world.specs.Step.{Event}
 use Rattle.urb_show.proofs.DeliveredPlaces.{delivered_later}
 use Rattle.urb_show.proofs.ListBeginnings.{takes}
 use Rattle.urb_show.specs.Additions.{lists_of}

@@ -5,7 +5,7 @@ use Rattle.std.proofs.Common.{refl, slice_get, subst, suc, sym, take, zero, ℕ,
 use Rattle.std.proofs.lemmas.List.{append-nil}
 use Rattle.urb_group.specs.GroupCalls.{ComesUp, Commits, GoesDown, Steps, Takes, Ticks}
 use Rattle.urb_group.specs.GroupViews.{GroupView}
-use Rattle.urb_group.specs.Step.{Commit, Event, step}
+use Rattle.urb_world.specs.Step.{Commit, Event, step}
 use Rattle.urb_group.specs.declared.taken.Taken.TheVariants as taken
 use Rattle.urb_group.specs.declared.taken.Taken.{Taken}
 use Rattle.urb_names.specs.CarriedPackets.{Carried}
@@ -13,7 +13,7 @@ use Rattle.urb_names.specs.declared.refusal.Refusal.{Refusal}
 use Rattle.urb_node.specs.Replies.{Done, Reply, Sent, Stored, Up, WentDown}
 use Rattle.urb_stable.specs.PlacedRecords.{Placed}
 use Rattle.urb_show.proofs.Prefixes.{prefix_get}
-use Rattle.urb_group.specs.RecoveryPlans.{after}
+use Rattle.urb_world.specs.RecoveryPlans.{after}
 use Rattle.urb_show.specs.Pasts.{IsLedTo, IsToldAt, reply_to}
 use mathlib.Core.List.{IsPrefix}
 

@@ -1,9 +1,9 @@
 -- What the nodes have delivered at a place of a house's history.
 use Rattle.std.specs.Prelude.{List, Option, Some, map, suc, ℕ}
 use Rattle.urb_group.specs.GroupViews.{GroupView, Shows}
-use Rattle.urb_group.specs.RecoveryPlans.{after}
-use Rattle.urb_group.specs.Step.{Event}
-use Rattle.urb_group.specs.World.{World, stored}
+use Rattle.urb_world.specs.RecoveryPlans.{after}
+use Rattle.urb_world.specs.Step.{Event}
+use Rattle.urb_world.specs.World.{World, stored}
 use Rattle.urb_names.specs.LabelsAndContents.{Content, Label}
 use Rattle.urb_names.specs.ListPrefixes.{Begins as IsBeginning}
 use Rattle.urb_stable.specs.DeliveredLogs.{entries}

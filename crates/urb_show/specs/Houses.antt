@@ -2,7 +2,7 @@
 use Rattle.std.specs.Prelude.{List, [], if◌then◌else◌, ℕ, ◌+◌, ◌++◌, ◌-◌, ◌==◌, ◌^◌, ◌∷◌, ◌≡◌, ◌≢◌}
 use Rattle.logbook.specs.Pages.{Book}
 use Rattle.urb_group.specs.GroupViews.{GroupView}
-use Rattle.urb_group.specs.Step.{Event}
+use Rattle.urb_world.specs.Step.{Event}
 use Rattle.urb_show.specs.Lists.{Lists, list_at, lists_in}
 use Rattle.urb_show.specs.Readers.{ToldView}
 

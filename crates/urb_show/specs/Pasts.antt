@@ -1,9 +1,9 @@
 -- The past of a house: its events, and the group that they make.
 use Rattle.std.specs.Prelude.{IfOk, List, Result, Some, length, slice_get, take, ℕ, ◌≡◌}
 use Rattle.urb_group.specs.GroupViews.{GroupView, Shows}
-use Rattle.urb_group.specs.RecoveryPlans.{after}
-use Rattle.urb_group.specs.Step.{Event, IsReached, step}
-use Rattle.urb_group.specs.World.{World}
+use Rattle.urb_world.specs.RecoveryPlans.{after}
+use Rattle.urb_world.specs.Step.{Event, IsReached, step}
+use Rattle.urb_world.specs.World.{World}
 use Rattle.urb_group.specs.declared.taken.Taken.TheVariants as taken
 use Rattle.urb_group.specs.declared.taken.Taken.{Taken}
 use Rattle.urb_node.specs.Replies.{Drafted, Reply, Same}

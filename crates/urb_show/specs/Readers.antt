@@ -1,7 +1,7 @@
 -- What a reader knows, and what a read does to it.
 use Rattle.std.specs.Prelude.{List, ◌≡◌, ◌⊎◌}
 use Rattle.urb_group.specs.GroupViews.{GroupView}
-use Rattle.urb_group.specs.Step.{Event}
+use Rattle.urb_world.specs.Step.{Event}
 use Rattle.urb_show.specs.DeliveredLists.{AreDeliveredBy}
 use Rattle.urb_show.specs.Lists.{Agree, AgreeAcross, Begins, Lists, OneBeginsAll}
 use mathlib.Core.List.{IsPrefix}

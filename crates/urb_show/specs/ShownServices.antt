@@ -1,10 +1,10 @@
 -- What a user sees of the algorithm's worlds, events and runs.
 use Rattle.std.specs.Prelude.{Err, IsTrue, List, None, Ok, Option, Some, [], false, if◌then◌else◌}
 use Rattle.std.specs.Prelude.{ℕ, ◌∷◌, ◌≡◌}
-use Rattle.urb_group.specs.DeliveredMessages.{event_node}
+use Rattle.urb_world.specs.EventEffects.{event_node}
 use Rattle.urb_group.specs.ReportedStates.{state_of}
-use Rattle.urb_group.specs.Step.{Arrive, Commit, Crash, Event, Fail, Restart, Submit, Tick, step}
-use Rattle.urb_group.specs.World.{World}
+use Rattle.urb_world.specs.Step.{Arrive, Commit, Crash, Event, Fail, Restart, Submit, Tick, step}
+use Rattle.urb_world.specs.World.{World}
 use Rattle.urb_names.specs.Nodes.{is_node}
 use Rattle.urb_names.specs.Pairs.{own}
 use Rattle.urb_node.specs.Part.{Node as Part}

@@ -3,7 +3,7 @@ use Rattle.std.specs.Prelude.{Option, Some, length, ℕ}
 use Rattle.urb_group.specs.GroupCalls.{Answers}
 use Rattle.urb_group.specs.GroupViews.{GroupView}
 use Rattle.urb_group.specs.ReportedStates.{state_of}
-use Rattle.urb_group.specs.World.{World, stored}
+use Rattle.urb_world.specs.World.{World, stored}
 use Rattle.urb_stable.specs.DeliveredLogs.{log}
 use Rattle.urb_show.specs.declared.status.Status.{Status}
 

@@ -4,7 +4,7 @@ ghost use Rattle.std.specs.Prelude.{◌≡◌, if◌then◌else◌, is_ok, lengt
 ghost use Rattle.urb_names.specs.PacketGrammar.{packet_of};
 ghost use Rattle.urb_node.specs.Replies.{Sent, Stored, Up, WentDown};
 ghost use Rattle.urb_group.specs.GroupCalls.{ComesUp, Commits, GoesDown, Takes, Ticks};
-ghost use Rattle.urb_group.specs.Step.{Arrive, Commit, Crash, Fail, Restart, Submit, Tick};
+ghost use Rattle.urb_world.specs.Step.{Arrive, Commit, Crash, Fail, Restart, Submit, Tick};
 ghost use Rattle.urb_show.specs.Houses.{IsEvent, next_count};
 ghost use Rattle.urb_show.specs.Pasts.{IsRecorded, reply_to};
 

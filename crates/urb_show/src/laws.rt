@@ -3,14 +3,14 @@
 ghost use Rattle.std.specs.Prelude.{Contains, List, [], length, ℕ, ◌++◌, ◌∷◌, ◌≡◌};
 ghost use Rattle.std.specs.declared.alloc.Global.{Global};
 ghost use Rattle.urb_group.specs.GroupCalls.{Steps};
-ghost use Rattle.urb_group.specs.Acceptance.{HasStored};
+ghost use Rattle.urb_world.specs.Acceptance.{HasStored};
 ghost use Rattle.urb_group.specs.GroupViews.{GroupView, IsSound, Shows};
-ghost use Rattle.urb_group.specs.RecoveredWorlds.{IsNotStranded};
-ghost use Rattle.urb_group.specs.RecoveryPlans.{after};
-ghost use Rattle.urb_group.specs.Rounds.{AllUp, AnswersArrive, IsBusyRound, IsRound, IsUndisturbed};
-ghost use Rattle.urb_group.specs.Rounds.{NoneDue, ReadyHaveDelivered, TicksAreSilent, acts_of};
-ghost use Rattle.urb_group.specs.Step.{Event, IsReached};
-ghost use Rattle.urb_group.specs.World.{World};
+ghost use Rattle.urb_world.specs.RecoveredWorlds.{IsNotStranded};
+ghost use Rattle.urb_world.specs.RecoveryPlans.{after};
+ghost use Rattle.urb_world.specs.Rounds.{AllUp, AnswersArrive, IsBusyRound, IsRound, IsUndisturbed};
+ghost use Rattle.urb_world.specs.Rounds.{NoneDue, ReadyHaveDelivered, TicksAreSilent, acts_of};
+ghost use Rattle.urb_world.specs.Step.{Event, IsReached};
+ghost use Rattle.urb_world.specs.World.{World};
 ghost use Rattle.urb_names.specs.LabelsAndContents.{Content, Label};
 ghost use Rattle.urb_names.specs.ListPrefixes.{OneBegins};
 ghost use Rattle.urb_node.specs.Replies.{Reply};
@@ -99,7 +99,7 @@ pub fn replies_stand()
 
 /// A house delivers. If the last events of its past are two busy rounds, each node that is ready has
 /// delivered all that the nodes had stored before these rounds. The rounds are those of
-/// `urb_group::fairness`: all nodes were up, and the group wasn't stranded. `House::recall` says
+/// `urb_world::fairness`: all nodes were up, and the group wasn't stranded. `House::recall` says
 /// that the past of a house has led to its group.
 pub fn two_busy_rounds_of_a_house_deliver()
     ensures { (opened group : GroupView) (w : World) (before first second : List Event) →
@@ -108,7 +108,7 @@ pub fn two_busy_rounds_of_a_house_deliver()
         IsBusyRound (after w before) first → IsBusyRound (after (after w before) first) second →
         (end : World) × Shows group end × ReadyHaveDelivered (after w before) end }
 {
-    urb_group::fairness::two_busy_rounds_deliver();
+    urb_world::fairness::two_busy_rounds_deliver();
 }
 
 /// A house falls silent. If its past had three rounds, and the third one's answers arrived too, no
@@ -125,5 +125,5 @@ pub fn three_rounds_of_a_house_end_its_ticks()
         → (end : World) × Shows group end × NoneDue end
         × TicksAreSilent (acts_of (after (after (after (after w before) first) second) third) later) }
 {
-    urb_group::fairness::ticks_end();
+    urb_world::fairness::ticks_end();
 }

@@ -15,7 +15,7 @@ pub struct Moment<K: HouseName> {
 
 impl<K: HouseName> Model for Moment<K> {
     ghost use Rattle.std.specs.Prelude.{List};
-    ghost use Rattle.urb_group.specs.Step.{Event};
+    ghost use Rattle.urb_world.specs.Step.{Event};
 
     ghost Value = { List Event };
 

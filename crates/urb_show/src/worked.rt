@@ -1,9 +1,9 @@
 //! Worked examples of the definitions: small lists, pages and counts, each with its result.
 ghost use Rattle.std.specs.Prelude.{◌≡◌, ◌∷◌, ◌-◌, ◌^◌, []};
-ghost use Rattle.urb_group.specs.internal.Scripts.{message};
+ghost use Rattle.urb_world.specs.internal.Scripts.{message};
 ghost use Rattle.urb_names.specs.Names.{name};
 ghost use Rattle.urb_show.specs.internal.Examples.{entry, group_of, told};
-ghost use Rattle.urb_group.specs.World.{started};
+ghost use Rattle.urb_world.specs.World.{started};
 ghost use Rattle.urb_names.specs.LabelsAndContents.{Limits};
 ghost use Rattle.urb_show.specs.DeliveredLists.{HaveDelivered};
 ghost use Rattle.urb_show.specs.Houses.{next_count};

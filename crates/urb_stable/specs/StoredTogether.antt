@@ -27,8 +27,8 @@ pub record LeavesNoRecord (is_doubtful : Bool) (left : Option Entry)
   pub doubtful : IfErr result (λ e. is_place e ≡ false → is_doubtful ≡ true)
   pub none : IfErr result (λ e. is_place e ≡ false → left ≡ None)
 
--- What storing this many records does to the next position (`old` before it, `new` after it). After
--- Ok it moves by their number. After a fault it is as before.
+-- What storing `count` records does to the next position (`old` before it, `new` after it). After Ok
+-- it moves by `count`. After a fault it is as before.
 pub record MovesPlace (old new count : ℕ) (result : Result (Unit {0}) StoreFault) : Type 0 where
   pub stored : OnOk result (new ≡ old + count)
   pub failed : OnErr result (new ≡ old)

@@ -17,7 +17,7 @@ use Rattle.urb_pending.specs.PendingSet.{first_name}
 use Rattle.urb_stubborn.specs.Resends.{Resending, tick_packets}
 use Rattle.urb_stubborn.specs.internal.TickWalks.{IsTick, IsWalked, behind, between, due_pairs}
 use Rattle.urb_stubborn.specs.internal.TickWalks.{is_within}
-use Rattle.urb_stubborn.specs.declared.resend.Turn.{Turn}
+use Rattle.urb_stubborn.specs.declared.resend.TickTurn.{TickTurn}
 use Rattle.urb_stubborn.proofs.PairsAfterCursor.{Pairs}
 use Rattle.urb_stubborn.proofs.PairRanges.{AreFound, all_found, all_pass, between_next, found_kept}
 use Rattle.urb_stubborn.proofs.PairRanges.{rising_kept}
@@ -30,7 +30,7 @@ sends r certified pair = to_unheard r.limits.n r.node certified r.heard pair
 -- The progress through these pairs: the remaining pairs and names of the turn, the cursor, and the
 -- packets so far.
 pub record Walks (r : Resending) (certified : List Label) (all : List (Label × Content))
-    (turn : Turn) (old : List Carried) (left : ℕ) (rest : List (Label × Content))
+    (turn : TickTurn) (old : List Carried) (left : ℕ) (rest : List (Label × Content))
     (cursor : Option Label) (packets : List Carried) : Type 0 where
   -- how many pairs are done
   pub done : ℕ
@@ -46,7 +46,7 @@ pub record Walks (r : Resending) (certified : List Label) (all : List (Label × 
   pub sent : packets ≡ old ++ flat_map (sends r certified) (take done all)
 
 -- at the start no pair is done, and the cursor and the packets are as before
-pub begun : (r : Resending) (certified : List Label) (all : Pairs) (turn : Turn)
+pub begun : (r : Resending) (certified : List Label) (all : Pairs) (turn : TickTurn)
     (old : List Carried) → Walks r certified all turn old turn.left all turn.cursor old
 begun r certified all turn old =
     record {
@@ -78,7 +78,7 @@ next_of (suc done) (p ∷ all) q rest e =
     (more.0, ap (λ ps. p ∷ ps) more.1, omega (arith, more.2))
 
 -- once a pair's packets are sent, the walk is one name further
-pub further : (r : Resending) (certified : List Label) (all : Pairs) (turn : Turn)
+pub further : (r : Resending) (certified : List Label) (all : Pairs) (turn : TickTurn)
     (old : List Carried) (left : ℕ) (q : Label × Content) (rest : Pairs) (cursor : Option Label)
     (packets new : List Carried) → 0 < left
     → Walks r certified all turn old left (q ∷ rest) cursor packets
@@ -99,7 +99,7 @@ further r certified all turn old left q rest cursor packets new some h e =
     }
 
 -- a walk whose turn has no name left has sent the turn's pairs
-pub turn_over : (r : Resending) (certified : List Label) (all : Pairs) (turn : Turn)
+pub turn_over : (r : Resending) (certified : List Label) (all : Pairs) (turn : TickTurn)
     (old : List Carried) (left : ℕ) (rest : Pairs) (cursor : Option Label) (packets : List Carried)
     → left ≡ 0
     → Walks r certified all turn old left rest cursor packets
@@ -119,7 +119,7 @@ nothing_left zero (p ∷ all) e = absurd cc
 nothing_left (suc done) (p ∷ all) e = omega (arith, nothing_left done all e)
 
 -- a walk with no pair left has sent the turn's pairs
-pub all_walked : (r : Resending) (certified : List Label) (all : Pairs) (turn : Turn)
+pub all_walked : (r : Resending) (certified : List Label) (all : Pairs) (turn : TickTurn)
     (old : List Carried) (left : ℕ) (cursor : Option Label) (packets : List Carried)
     → Walks r certified all turn old left [] cursor packets
     → IsWalked r certified (take turn.left all) turn old
@@ -183,7 +183,7 @@ some_behind f None h = h
 some_behind f (Some a) h = refl
 
 -- after its packets, a walk is one name further
-pub one_further : (r : Resending) (certified : List Label) (pairs all : Pairs) (turn : Turn)
+pub one_further : (r : Resending) (certified : List Label) (pairs all : Pairs) (turn : TickTurn)
     (old : List Carried) (left : ℕ) (from last cursor : Option Label) (packets new : List Carried)
     (x : Label) (m : Content)
     → are_rising pairs ≡ true → 0 < left
@@ -254,7 +254,7 @@ none_left (p ∷ ps) = none_left ps
 -- A walk to the end is the tick. If there was a cursor, a second walk from the first name up to it
 -- belongs to the tick too.
 pub tick_around : (r : Resending) (pairs : Pairs) (certified : List Label) (c : Label)
-    (first second : Turn) (sent packets : List Carried) → r.cursor ≡ Some c
+    (first second : TickTurn) (sent packets : List Carried) → r.cursor ≡ Some c
     → IsWalked r certified (take NAMES_PER_TICK (between r.cursor None (due_pairs r pairs)))
     (record { left = NAMES_PER_TICK; cursor = r.cursor }) [] first sent
     → IsWalked r certified (take first.left (between None r.cursor (due_pairs r pairs)))
@@ -298,7 +298,7 @@ tick_around r pairs certified c first second sent packets e one two =
     }
 
 -- without a cursor, one walk over the due pairs is the whole tick
-pub tick_straight : (r : Resending) (pairs : Pairs) (certified : List Label) (first : Turn)
+pub tick_straight : (r : Resending) (pairs : Pairs) (certified : List Label) (first : TickTurn)
     (sent : List Carried) → r.cursor ≡ None
     → IsWalked r certified (take NAMES_PER_TICK (between r.cursor None (due_pairs r pairs)))
     (record { left = NAMES_PER_TICK; cursor = r.cursor }) [] first sent

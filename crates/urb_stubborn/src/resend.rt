@@ -23,7 +23,7 @@ use urb_window::Marks;
 
 // How many more names a tick may resend, and the last name that it resent.
 #[derive(Clone, Copy, Drop)]
-struct Turn {
+struct TickTurn {
     left: u32,
     cursor: Option<Name>,
 }
@@ -33,7 +33,7 @@ struct Turn {
 struct Walk {
     from: Option<Name>,
     last: Option<Name>,
-    turn: Turn,
+    turn: TickTurn,
 }
 
 /// A node's position in its resends, and which nodes' certificates of which names it has heard. It
@@ -165,12 +165,12 @@ impl<A: Allocator + Copy> Resend<A> {
         alloc: A,
         pending: &Pending<A>,
         certified: &Certified<A>,
-    ) -> Result<Turn, NoMemory>
+    ) -> Result<TickTurn, NoMemory>
         requires { packets.old.items ≡ [] }
         ensures { IfOk result (λ after.
             IsTick self.now pending.now.pairs certified.now.names after packets.new.items) }
     {
-        let begun = Turn {
+        let begun = TickTurn {
             left: NAMES_PER_TICK,
             cursor: self.cursor,
         };
@@ -255,7 +255,7 @@ impl<A: Allocator + Copy> Resend<A> {
         pending: &Pending<A>,
         certified: &Certified<A>,
         walk: Walk,
-    ) -> Result<Turn, NoMemory>
+    ) -> Result<TickTurn, NoMemory>
         ensures { IfOk result (λ after. IsWalked self.now certified.now.names
             (take walk.turn.left
             (between walk.from walk.last (due_pairs self.now pending.now.pairs))) walk.turn
@@ -268,7 +268,7 @@ impl<A: Allocator + Copy> Resend<A> {
         let mut cursor = turn.cursor;
         while 0 < left {
             let Some(name) = self.next_within(pending, at, &last) else {
-                return Ok(Turn { left, cursor });
+                return Ok(TickTurn { left, cursor });
             };
             let message = pending.message(name).unwrap();
             let is_certified = certified.has(name);
@@ -283,7 +283,7 @@ impl<A: Allocator + Copy> Resend<A> {
             cursor = Some(name);
             left -= 1;
         }
-        Ok(Turn { left, cursor })
+        Ok(TickTurn { left, cursor })
     }
 }
 

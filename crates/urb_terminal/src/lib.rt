@@ -13,7 +13,7 @@
 //! No program uses it.
 #![tactic(auto)]
 
-ghost use Rattle.std.specs.Prelude.{◌≡◌};
+ghost use Rattle.std.specs.Prelude.{◌≡◌, ◌≤◌, IsTrue, length};
 
 use std::alloc::{Allocator, Global};
 use std::cell::RefCell;
@@ -37,7 +37,11 @@ pub struct Terminal<'a> {
 impl<'a> Terminal<'a> {
     /// A terminal with these arguments and this input. If `open`, writes to its standard output
     /// succeed; otherwise they fail. No contract can name what its cells hold.
-    pub fn new(alloc: Global, words: &'a [&'a [u8]], input: &'a [u8], open: bool) -> Terminal<'a> {
+    pub fn new(alloc: Global, words: &'a [&'a [u8]], input: &'a [u8], open: bool) -> Terminal<'a>
+        ensures words { result.words ≡ words.entry }
+        ensures input { result.input ≡ input.entry }
+        ensures output { result.«open» ≡ «open» }
+    {
         Terminal {
             alloc,
             words,
@@ -171,7 +175,12 @@ pub struct Shown {
 impl Shown {
     /// Whether a run ended with this status and wrote exactly this to standard output, and its
     /// errors begin and end with these texts.
-    pub fn is(&self, status: u8, output: &[u8], begins: &[u8], ends: &[u8]) -> bool {
+    pub fn is(&self, status: u8, output: &[u8], begins: &[u8], ends: &[u8]) -> bool
+        ensures status { IsTrue result → self.now.status ≡ status }
+        ensures output { IsTrue result → self.now.output.items ≡ output.now }
+        ensures errors { IsTrue result → (length begins.now ≤ length self.now.errors.items)
+            × (length ends.now ≤ length self.now.errors.items) }
+    {
         let errors = self.errors.as_slice();
         self.status == status
             && self.output.as_slice() == output

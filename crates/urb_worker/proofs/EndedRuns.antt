@@ -4,24 +4,25 @@ use Rattle.std.proofs.Common.{length, refl, subst, suc, sym, true, zero, ℕ, �
 use Rattle.std.proofs.Common.{◌≡◌, ◌≤◌}
 use Rattle.std.specs.Prelude.{slice_get}
 use Rattle.urb_names.specs.LabelsAndContents.{Limits}
+use Rattle.urb_group.proofs.stops.StoredWorlds.{as-itself}
 use Rattle.urb_group.specs.GroupStores.{Clustered}
 use Rattle.urb_group.specs.GroupViews.{GroupView, IsSound, Shows}
-use Rattle.urb_group.specs.RecoveryPlans.{after}
+use Rattle.urb_world.specs.RecoveryPlans.{after}
 use Rattle.urb_group.specs.StoreContents.{HoldsOf, IsLasting, IsSecured, IsStoreOf, LeavesOf}
 use Rattle.urb_group.specs.StoreContents.{WouldLeave}
 use Rattle.urb_group.specs.StoreOpenings.{HasStopped}
-use Rattle.urb_group.specs.Step.{Event}
-use Rattle.urb_group.specs.World.{World}
+use Rattle.urb_world.specs.Step.{Event}
+use Rattle.urb_world.specs.World.{World}
 use Rattle.urb_show.specs.Houses.{HouseView}
 use Rattle.urb_show.specs.Pasts.{IsLedTo}
 use Rattle.urb_stable.specs.declared.stable.Stable.{Ghosts}
-use Rattle.urb_worker.proofs.OtherNodes.{rested-store}
-use Rattle.urb_worker.specs.Counting.{TallyView}
-use Rattle.urb_worker.specs.LastLoans.{AllRestSince, RestsSince}
-use Rattle.urb_worker.specs.NodeStores.{AreStoresAfter, IsStoreAfter, IsStoreSince}
+use Rattle.urb_turn.proofs.OtherNodes.{rested-store}
+use Rattle.urb_turn.specs.Counting.{TallyView}
+use Rattle.urb_turn.specs.LastLoans.{AllRestSince, RestsSince}
+use Rattle.urb_turn.specs.NodeStores.{AreStoresAfter, IsStoreAfter, IsStoreSince}
 use Rattle.urb_worker.specs.ServedStores.{EndsWhole, numbers_from}
 use Rattle.urb_worker.specs.internal.ServedStores.{AllKeepUp, ClosesAt, KeepsUp}
-use Rattle.urb_group.proofs.recovery.EventPlans.{after-none}
+use Rattle.urb_world.proofs.recovery.EventPlans.{after-none}
 
 -- a house that is closed
 pub closes_at : (opened : GroupView) (n : ℕ) (tallies : List TallyView) (house : HouseView)
@@ -174,7 +175,9 @@ leaves_stopped g cluster limits lasts secured ended nodes =
       sound = ended.sound;
       counted = ended.nodes ∙ sym ended.size;
       nodes = omega (arith, ended.size, nodes);
+      shown = after w ended.history;
       shows = ended.leads w secured.stocked.shows;
+      stands = as-itself (after w ended.history);
       holds = λ i store got.
           subst (λ (n : ℕ). HoldsOf g ((after w ended.history).node n) store) (omega arith)
           (one_after g w 1 ended.history lasts all i store got).contents.contents;

@@ -1,41 +1,18 @@
 -- The jobs of a feed.
 use Rattle.std.proofs.Common.{Bool, List, None, Option, Some, [], arith, false, if◌then◌else◌}
 use Rattle.std.proofs.Common.{length, refl, subst, true, ℕ, ◌<◌, ◌≡◌, ◌∷◌}
-use Rattle.urb_feed.specs.Feeds.{FeedView, IsPortion, whole_feed}
-use Rattle.urb_group.specs.GroupViews.{GroupView, IsSound, Shows}
-use Rattle.urb_group.specs.World.{World}
+use Rattle.urb_feed.specs.Feeds.{FeedView}
 use Rattle.urb_names.specs.CarriedPackets.{Carried}
 use Rattle.urb_names.specs.PacketGrammar.{spelling}
-use Rattle.urb_worker.specs.Changes.{change_of}
-use Rattle.urb_show.specs.Houses.{HouseView}
-use Rattle.urb_worker.specs.NodeFeeds.{BeginsFeed}
+use Rattle.urb_turn.specs.Changes.{change_of}
 use Rattle.urb_worker.specs.internal.OwnJobs.{Comes, DoesBoth, DoesOwn, FeedingView}
-use Rattle.urb_worker.specs.NodeFeeds.{IsFeedOf, IsNextPortion}
+use Rattle.urb_turn.specs.NodeFeeds.{IsNextPortion}
 use Rattle.urb_worker.specs.internal.OwnJobs.{FeedsAfter, IsNextArrival}
 use Rattle.urb_worker.specs.internal.OwnJobs.{IsOwnJob, Learns, MayDoOwn, OwnJobsView, left_of}
 use Rattle.urb_worker.specs.internal.Pulses.{PulseView, pulse_after}
-use Rattle.urb_worker.specs.Views.{FinishedView}
-use Rattle.urb_worker.specs.declared.job.Job.{Job}
-use Rattle.urb_worker.specs.internal.Arrivals.{IsArrival}
-
--- a feed that a worker begins
-pub begins_feed : (group : GroupView) (n : ℕ) (feed : FeedView) → IsSound group
-    → ((w : World) → Shows group w → feed ≡ whole_feed w n) → BeginsFeed group n feed
-begins_feed group n feed sound whole = record { sound = sound; whole = whole }
-
--- a feed that begins in a House that the worker has borrowed is a feed of its node
-pub lends_feed : (lent : HouseView) (n : ℕ) (feed : FeedView) → BeginsFeed lent.group n feed
-    → IsFeedOf n feed
-lends_feed lent n feed begins = record { lent = lent; begins = begins }
-
--- a portion of it
-pub lends_portion : (lent : HouseView) (old new : FeedView) (packets : List Carried)
-    → IsSound lent.group → IsPortion lent.group old new packets → IsNextPortion old new packets
-lends_portion lent old new packets sound portion = record {
-  lent = lent;
-  sound = sound;
-  portion = portion;
-}
+use Rattle.urb_turn.specs.Views.{FinishedView}
+use Rattle.urb_turn.specs.declared.job.Job.{Job}
+use Rattle.urb_turn.specs.internal.Arrivals.{IsArrival}
 
 -- what comes next if packets wait
 pub comes_next : (waiting packets : List Carried) (feed : FeedView) → 0 < length waiting

@@ -1,26 +1,25 @@
 -- What workers do job after job, and stores in their order, as loops take them from one list and put
 -- them into another.
 use Rattle.std.proofs.Common.{◌≡◌, ◌∙◌, ◌++◌, IfSome, List, [], ◌∷◌, None, Ok, Err, Option, Result}
+use Rattle.std.proofs.Common.{reverse, ℕ, ◌+◌, zero, suc}
 use Rattle.std.proofs.Common.{Some, append_assoc, ap, inl, inr, length, refl, subst, sym, map}
-use Rattle.std.proofs.Common.{reverse, ℕ}
-use Rattle.std.proofs.Common.{◌+◌, zero, suc}
 use Rattle.std.proofs.Math.Logic.{∥∥₁_elim}
 use Rattle.std.proofs.Props.{props}
 use Rattle.std.proofs.lemmas.List.{reverse-append, map_push}
 use Rattle.urb_stable.specs.declared.stable.Stable.{Ghosts}
 use Rattle.urb_group.specs.GroupViews.{GroupView, Shows}
-use Rattle.urb_group.specs.World.{World}
-use Rattle.urb_group.specs.Step.{Event}
+use Rattle.urb_world.specs.World.{World}
+use Rattle.urb_world.specs.Step.{Event}
 use Rattle.urb_worker.specs.Acts.{Act, LetsOut}
-use Rattle.urb_worker.specs.Counting.{TallyView}
-use Rattle.urb_worker.specs.Desks.{events_until}
-use Rattle.urb_worker.specs.Jobs.{runs_at}
-use Rattle.urb_worker.specs.NodeStores.{IsStoreAfter, IsStoreSince}
+use Rattle.urb_turn.specs.Counting.{TallyView}
+use Rattle.urb_turn.specs.Loans.{events_until}
+use Rattle.urb_turn.specs.Jobs.{runs_at}
+use Rattle.urb_turn.specs.NodeStores.{IsStoreAfter, IsStoreSince}
 use Rattle.urb_worker.specs.ServedStores.{AreServed, Continues, HasServed, IsLeftOf, Rests}
 use Rattle.urb_worker.specs.ServedStores.{Serves, Works, numbers_from}
-use Rattle.urb_worker.specs.Views.{FinishedView}
-use Rattle.urb_worker.specs.WholeTurns.{Does}
-use Rattle.urb_worker.specs.declared.job.Job.{Job}
+use Rattle.urb_turn.specs.Views.{FinishedView}
+use Rattle.urb_turn.specs.WholeTurns.{Does}
+use Rattle.urb_turn.specs.declared.job.Job.{Job}
 use Rattle.urb_worker.specs.internal.ServedStores.{AllKeepUp, AllThere, KeepsUp, MayWork}
 
 module _ {S A : Type 0} (g : Ghosts S A) (opened : GroupView) (n : ℕ) where

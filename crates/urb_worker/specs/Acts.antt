@@ -4,9 +4,9 @@ use Rattle.urb_names.specs.CarriedPackets.{Carried}
 use Rattle.urb_names.specs.PacketGrammar.{spelling}
 use Rattle.urb_group.specs.Commands.{reply_of}
 use Rattle.urb_node.specs.Replies.{packets_in}
-use Rattle.urb_worker.specs.Changes.{change_of}
-use Rattle.urb_worker.specs.Views.{FinishedView}
-use Rattle.urb_worker.specs.declared.change.Change.{Change}
+use Rattle.urb_turn.specs.Changes.{change_of}
+use Rattle.urb_turn.specs.Views.{FinishedView}
+use Rattle.urb_turn.specs.declared.change.Change.{Change}
 
 -- An act. The link got these bytes for this node. Or a packet for this node was lost, because
 -- memory for its bytes was refused. Or a change of a node was reported.

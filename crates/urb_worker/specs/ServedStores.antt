@@ -2,15 +2,15 @@
 use Rattle.std.specs.Prelude.{List, [], length, suc, zero, ℕ, ◌+◌, ◌∷◌, ◌≡◌}
 use Rattle.urb_stable.specs.declared.stable.Stable.{Ghosts}
 use Rattle.urb_group.specs.GroupViews.{GroupView, IsSound, Shows}
-use Rattle.urb_group.specs.Step.{Event}
-use Rattle.urb_group.specs.World.{World}
+use Rattle.urb_world.specs.Step.{Event}
+use Rattle.urb_world.specs.World.{World}
 use Rattle.urb_show.specs.Pasts.{IsLedTo}
 use Rattle.urb_worker.specs.Acts.{Act, LetsOut}
-use Rattle.urb_worker.specs.Jobs.{runs_at}
-use Rattle.urb_worker.specs.NodeStores.{AreStoresAfter}
-use Rattle.urb_worker.specs.Views.{FinishedView}
-use Rattle.urb_worker.specs.WholeTurns.{Does}
-use Rattle.urb_worker.specs.declared.job.Job.{Job}
+use Rattle.urb_turn.specs.Jobs.{runs_at}
+use Rattle.urb_turn.specs.NodeStores.{AreStoresAfter}
+use Rattle.urb_turn.specs.Views.{FinishedView}
+use Rattle.urb_turn.specs.WholeTurns.{Does}
+use Rattle.urb_turn.specs.declared.job.Job.{Job}
 
 -- consecutive numbers, from the first one on
 abbrev pub numbers_from : ℕ → ℕ → List ℕ

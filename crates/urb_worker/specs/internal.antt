@@ -1,16 +1,5 @@
-pub mod Stages
 pub mod Replies
 pub mod ServedStores
-pub mod LoanEnds
-pub mod CountedHouses
 pub mod WorkerOutputs
-pub mod Desks
-pub mod Arrivals
-pub mod Ticks
-pub mod IdleTimes
 pub mod Pulses
 pub mod OwnJobs
-pub mod Doors
-pub mod SeenEvents
-pub mod Sends
-pub mod TurnExamples

@@ -2,10 +2,11 @@
 
 ghost use Rattle.std.specs.Prelude.{◌≡◌, [], ◌∷◌, ◌++◌};
 
-use crate::{Change, Handed};
 use logbook::{Opening, Rule, Seen, Start};
 use std::marker::Model;
+use urb_link::Handed;
 use urb_names::NodeId;
+use urb_turn::Change;
 
 // The rule of a book that may hold any list.
 struct Free;

@@ -3,11 +3,10 @@
 ghost use Rattle.std.specs.Prelude.{◌≡◌, ◌++◌, [], IfOk, OnErr, OnOk, length};
 ghost use Rattle.std.specs.Prelude.{option_to_list, ◌&&◌, ◌==◌};
 ghost use Rattle.urb_names.specs.PacketGrammar.{spelling};
-ghost use Rattle.urb_worker.specs.NodeFeeds.{IsFeedOf, IsNextPortion};
+ghost use Rattle.urb_turn.specs.NodeFeeds.{IsFeedOf, IsNextPortion};
 ghost use Rattle.urb_worker.specs.internal.OwnJobs.{Comes};
-ghost use Rattle.urb_worker.specs.internal.Arrivals.{IsArrival};
+ghost use Rattle.urb_turn.specs.internal.Arrivals.{IsArrival};
 
-use crate::{Hub, HubName, Job};
 use std::alloc::Global;
 use std::collections::VecDeque;
 use std::marker::Model;
@@ -15,6 +14,7 @@ use std::sync::Wait;
 use urb_feed::Feed;
 use urb_names::{NoMemory, NodeId, Packet, encode};
 use urb_show::HouseName;
+use urb_turn::{Hub, HubName, Job};
 
 /// A feed of a node that its worker goes through. A portion is made under the lock, and its packets
 /// then arrive at the node one by one.

@@ -3,14 +3,7 @@
 ghost use Rattle.urb_names.specs.declared.limits.TheConstants.{MAX_NODES};
 ghost use Rattle.std.specs.Prelude.{◌≡◌, ◌<◌, ◌≤◌, IfOk, IfSome, length, vec_len};
 
-use crate::acceptor::{Acceptor, Refusals, accept_clients};
-use crate::connections::Connections;
-use crate::door::Door;
-use crate::tick_timer::{Ticking, start_timer};
-use crate::{
-    ArrivalQueue, ClientLimits, GroupSetting, NodeDesk, NodeService, ReaderPool, Reporter, Station,
-    Stop, TickQueues, Ticket, TicketPlaces, pass_rings, receive,
-};
+use crate::GroupSetting;
 use crossbeam_channel::Sender;
 use std::alloc::Global;
 use std::net::{Net, TcpListener, TcpStream};
@@ -18,8 +11,17 @@ use std::sync::Wait;
 use std::thread;
 use std::thread::{Scope, Threads};
 use std::time::Clock;
+use urb_desk::{
+    Acceptor, ClientLimits, Connections, NodeDesk, NodeService, ReaderPool, Refusals, TicketPlaces,
+    accept_clients,
+};
+use urb_link::{
+    ArrivalQueue, Door, Station, Stop, TickQueues, Ticket, Ticking, pass_rings, receive,
+    start_timer,
+};
 use urb_names::{NoMemory, NodeId};
 use urb_show::{HouseName, LogReader, ReadPosition};
+use urb_turn::Reporter;
 
 /// The group calls `watch` when it runs, and stops when `watch` returns.
 pub trait Watch {

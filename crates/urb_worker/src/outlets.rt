@@ -9,9 +9,10 @@ ghost use Rattle.std.specs.Prelude.{◌≡◌, ◌++◌, ◌∷◌, []};
 ghost use Rattle.urb_worker.specs.Acts.{Lost, Reported, Sent};
 
 use crate::acts::{ActList, Losing, Reporting, Sending};
-use crate::{Change, Link, Reporter};
 use std::marker::Model;
+use urb_link::Link;
 use urb_names::{NoMemory, NodeId};
+use urb_turn::{Change, Reporter};
 
 /// One worker's way to its group's link and reporter. Contracts see all that it has let out so far.
 #[derive(Drop)]

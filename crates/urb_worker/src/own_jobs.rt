@@ -1,19 +1,21 @@
 //! What a worker does besides its tickets: it feeds its node, and ticks again.
 
 ghost use Rattle.std.specs.Prelude.{◌≡◌, IfOk, None, OnErr, if◌then◌else◌};
-ghost use Rattle.urb_worker.specs.Changes.{change_of};
+ghost use Rattle.urb_turn.specs.Changes.{change_of};
 ghost use Rattle.urb_worker.specs.internal.OwnJobs.{Begins, FeedsAfter, IsNextArrival, IsOwnJob};
 ghost use Rattle.urb_worker.specs.internal.OwnJobs.{WaitsFor, left_of};
 ghost use Rattle.urb_worker.specs.internal.Pulses.{at_rest, pulse_after};
 
+use crate::WorkerSetting;
 use crate::feeding::{Feeding, arrival_of};
 use crate::pulse::Pulse;
 use crate::tickets::Patience;
-use crate::{Change, Finished, Gate, HubName, Job, Link, Reporter, WorkerSetting, change_of};
 use std::marker::Model;
 use std::sync::Wait;
+use urb_link::Link;
 use urb_names::{NoMemory, NodeId};
 use urb_show::HouseName;
+use urb_turn::{Change, Finished, Gate, HubName, Job, Reporter, change_of};
 
 /// A worker's jobs of its own: what is left of its node's feed, and the tick that is due.
 #[derive(Drop)]

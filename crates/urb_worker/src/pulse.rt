@@ -4,17 +4,17 @@ ghost use Rattle.std.specs.Prelude.{◌≡◌, ◌≤◌, Some, None, if◌then�
 ghost use Rattle.urb_worker.specs.internal.Pulses.{IsPauseOf, after_tick, at_rest, is_due};
 ghost use Rattle.urb_worker.specs.internal.Pulses.{is_new, is_news, is_tick, pulse_after, sends, tells_heard};
 ghost use Rattle.urb_node.specs.Steps.{says_heard};
-ghost use Rattle.urb_worker.specs.declared.job.Job.TheVariants.{Tick};
+ghost use Rattle.urb_turn.specs.declared.job.Job.TheVariants.{Tick};
 ghost use Rattle.urb_worker.specs.declared.pulse.TheConstants.{EARLY_TICKS};
 
 use crate::tickets::Patience;
 use crate::worker_loop::{is_record_stored, packets_in};
-use crate::{Finished, Job};
 use std::marker::Model;
 use std::time::Duration;
 use urb_group::{Answer, Reply};
 use urb_names::{Flags, NodeId, parse};
 use urb_show::HouseName;
+use urb_turn::{Finished, Job};
 
 /// How many early ticks a node has at most, one after the other, if it learns nothing new.
 pub const EARLY_TICKS: u32 = 8;

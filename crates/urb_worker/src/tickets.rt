@@ -3,12 +3,12 @@
 ghost use Rattle.std.specs.Prelude.{◌≡◌, ◌≤◌, Err, IfErr, IfOk, IsSome, true};
 ghost use Rattle.urb_worker.specs.internal.Pulses.{is_endless};
 
-use crate::Ticket;
 use crossbeam_channel::{Receiver, RecvTimeoutError, TryRecvError};
 use std::marker::PhantomData;
 use std::sync::Wait;
 use std::thread;
 use std::time::{Clock, Duration};
+use urb_link::Ticket;
 use urb_show::HouseName;
 
 /// The witness that a worker's channel has closed: it has no ticket left and no sender. Only

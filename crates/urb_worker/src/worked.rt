@@ -1,9 +1,3 @@
 //! Worked examples of the definitions: turns, stores, loans and desks, and what none of them can be.
 
-pub mod desks;
-pub mod node_stores;
-pub mod responses;
-pub mod stages;
-pub mod turn_ends;
-pub mod turns;
-pub mod whole_turns;
+pub mod served_stores;

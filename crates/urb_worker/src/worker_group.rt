@@ -6,8 +6,8 @@ ghost use Rattle.std.specs.Prelude.{◌≡◌, ◌<◌, ◌≤◌, ◌*◌, ◌+
 ghost use Rattle.std.specs.Prelude.{reverse, vec_len, vec_capacity};
 ghost use Rattle.urb_names.specs.declared.limits.TheConstants.{MAX_NODES};
 ghost use Rattle.urb_show.specs.Houses.{IsNamed};
-ghost use Rattle.urb_worker.specs.Counting.{count_after, events_in};
-ghost use Rattle.urb_worker.specs.LastLoans.{AllBegin};
+ghost use Rattle.urb_turn.specs.Counting.{count_after, events_in};
+ghost use Rattle.urb_turn.specs.LastLoans.{AllBegin};
 ghost use Rattle.urb_worker.specs.ServedStores.{AreServed, EndsWhole, numbers_from};
 ghost use Rattle.urb_worker.specs.internal.ServedStores.{AllKeepUp, ClosesAt, each};
 ghost use Rattle.urb_show.specs.declared.opened_group.TheConstants.{READERS};
@@ -15,10 +15,7 @@ ghost use Rattle.urb_show.specs.declared.opened_group.TheConstants.{READERS};
 use crate::listeners::{ListenerInput, run_listeners};
 use crate::polling::Polling;
 use crate::worker_threads::{Worker, WorkerInput, join_workers, start_workers};
-use crate::{
-    ClientLimits, Hub, HubName, Link, OpenGate, PacedLink, Reporter, SESSION_TICKETS, Station,
-    Tally, Ticket, UdpLink, Watch, WorkerSetting,
-};
+use crate::{Watch, WorkerSetting};
 use crossbeam_channel::{Receiver, Sender};
 use std::alloc::{AllocError, Global};
 use std::net::{Net, TcpListener, TcpStream};
@@ -27,9 +24,12 @@ use std::sync::ledger::Blank;
 use std::thread;
 use std::thread::{Scope, Threads};
 use std::time::Clock;
+use urb_desk::{ClientLimits, SESSION_TICKETS};
+use urb_link::{Link, PacedLink, Station, Ticket, UdpLink};
 use urb_names::NodeId;
 use urb_show::{HouseName, LogReader, Opened};
 use urb_stable::Stable;
+use urb_turn::{Hub, HubName, OpenGate, Reporter, Tally};
 
 // The number of tickets that a worker's channel has room for.
 const ROOM: usize = 64;
@@ -95,7 +95,7 @@ fn reserve_room<K: HouseName, L: HubName, S: Stable<Alloc = Global> + Drop>(
 }
 
 // Makes an input for each store, the last node's first.
-#[tactic(auto, using(crate::proofs::ServedStores::takes_up, crate::proofs::ServedStores::reverse_push, crate::proofs::LastLoans::begin_but_last, crate::proofs::LastLoans::begin_last))]
+#[tactic(auto, using(crate::proofs::ServedStores::takes_up, crate::proofs::ServedStores::reverse_push, urb_turn::proofs::LastLoans::begin_but_last, urb_turn::proofs::LastLoans::begin_last))]
 fn make_inputs<K: HouseName, L: HubName, S: Stable<Alloc = Global> + Drop>(
     inputs: Vec<WorkerInput<K, L, S>>,
     stores: Vec<S>,

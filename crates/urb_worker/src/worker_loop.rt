@@ -4,38 +4,29 @@ ghost use Rattle.std.specs.Prelude.{◌≡◌, ◌++◌, [], MatchOption, true};
 ghost use Rattle.urb_node.specs.Replies.{packets_in};
 ghost use Rattle.urb_group.specs.Commands.{reply_of};
 ghost use Rattle.urb_group.specs.GroupViews.{Shows};
-ghost use Rattle.urb_group.specs.World.{World};
+ghost use Rattle.urb_world.specs.World.{World};
 ghost use Rattle.urb_worker.specs.internal.Replies.{tells_record};
 ghost use Rattle.urb_worker.specs.internal.OwnJobs.{DoesBoth, Learns, MayDoOwn};
 ghost use Rattle.urb_worker.specs.Acts.{MaySend, Sends, reports_of};
-ghost use Rattle.urb_worker.specs.Changes.{change_of};
-ghost use Rattle.urb_worker.specs.NodeStores.{IsStoreSince};
+ghost use Rattle.urb_turn.specs.Changes.{change_of};
+ghost use Rattle.urb_turn.specs.NodeStores.{IsStoreSince};
 ghost use Rattle.urb_worker.specs.ServedStores.{HasServed, Works};
 ghost use Rattle.urb_worker.specs.internal.ServedStores.{MayWork};
 
+use crate::WorkerSetting;
 use crate::outlets::WorkerOutlets;
 use crate::own_jobs::OwnJobs;
 use crate::tickets::{Closed, next_ticket};
-use crate::{
-    Finished, Gate, Hub, HubName, Job, Link, Reporter, Settling, Silent, Tally, WorkerSetting,
-    change_of,
-};
 use crossbeam_channel::{Receiver, Sender};
 use std::alloc::Global;
 use std::sync::Wait;
 use std::time::Clock;
 use urb_group::{Answer, Outbox, Reply};
+use urb_link::{Link, Ticket};
 use urb_names::{NoMemory, NodeId, Packet, encode_into};
 use urb_show::HouseName;
 use urb_stable::Stable;
-
-/// A job for a node's worker, and the channel for its result. That channel has room for one result,
-/// so the worker never waits for the client that it answers.
-#[derive(Drop)]
-pub struct Ticket<K: HouseName> {
-    pub job: Job,
-    pub answer: Option<Sender<Finished<K>>>,
-}
+use urb_turn::{Finished, Gate, Hub, HubName, Job, Reporter, Settling, Silent, Tally, change_of};
 
 // Sends a packet to its node. If memory for its bytes is refused, the packet is lost. The buffer
 // takes the bytes.

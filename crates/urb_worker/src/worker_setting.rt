@@ -4,10 +4,11 @@ ghost use Rattle.std.specs.Prelude.{◌≡◌, [], true};
 
 use crate::outlets::WorkerOutlets;
 use crate::polling::Polling;
-use crate::{Gate, Hub, HubName, Link, Reporter};
 use std::alloc::Global;
 use std::sync::Wait;
+use urb_link::Link;
 use urb_show::HouseName;
+use urb_turn::{Gate, Hub, HubName, Reporter};
 
 /// What the workers of one Hub have in common.
 #[derive(Drop)]

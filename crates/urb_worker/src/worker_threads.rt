@@ -1,12 +1,12 @@
 //! The workers of a group, each on a thread of its own: what they start with, and what they leave.
 
 ghost use Rattle.std.specs.Prelude.{◌≡◌, ◌≤◌, IfSome, [], reverse, vec_len, vec_capacity};
-ghost use Rattle.urb_worker.specs.Desks.{events_until};
+ghost use Rattle.urb_turn.specs.Loans.{events_until};
 ghost use Rattle.urb_worker.specs.ServedStores.{AreServed, IsLeftOf};
 ghost use Rattle.urb_worker.specs.internal.ServedStores.{AllKeepUp, AllThere, KeepsUp, each};
 ghost use Rattle.urb_worker.specs.internal.ServedStores.{in_either};
 
-use crate::{Gate, HubName, Link, Reporter, Tally, Ticket, WorkerSetting, serve_from};
+use crate::{WorkerSetting, serve_from};
 use crossbeam_channel::{Receiver, Sender};
 use std::alloc::Global;
 use std::marker::{Model, PhantomData};
@@ -14,9 +14,11 @@ use std::snapshot::Snapshot;
 use std::sync::Wait;
 use std::thread::{Promise, PromisedHandle, Scope, Threads};
 use std::time::Clock;
+use urb_link::{Link, Ticket};
 use urb_names::NodeId;
 use urb_show::HouseName;
 use urb_stable::Stable;
+use urb_turn::{Gate, HubName, Reporter, Tally};
 
 /// What a worker starts with.
 #[derive(Drop)]

@@ -9,12 +9,12 @@ use crossbeam_channel::Sender;
 use std::alloc::Global;
 use std::sync::Wait;
 use std::sync::ledger::Blank;
+use urb_desk::{NodeService, ReaderPool, TicketPlaces};
 use urb_group::Group;
+use urb_link::{Bell, InFlight, Stop, Ticket};
 use urb_names::{ClientId, Config, NodeId, Payload};
 use urb_show::{House, HouseName, LogReader, Opened, ReadPosition};
-use urb_worker::{
-    Bell, Hub, HubName, InFlight, Job, NodeService, ReaderPool, Stop, Tally, Ticket, TicketPlaces,
-};
+use urb_turn::{Hub, HubName, Job, Tally};
 
 mod bursts;
 mod desks;

@@ -11,8 +11,10 @@ use std::net::{Ipv4Addr, Net, SocketAddr, TcpListener, TcpStream};
 use std::test::Fail;
 use std::time::{Clock, Duration};
 use urb_cli::{Errand, NodeAddress, PublishOptions, ReadOptions, SubmitOptions, run_errand};
+use urb_link::Station;
 use urb_terminal::{Shown, Terminal};
-use urb_worker::{Silent, Station, Watch};
+use urb_turn::Silent;
+use urb_worker::Watch;
 
 /// A terminal for these tests, together with the network of the runtime.
 #[derive(Drop)]

@@ -13,7 +13,8 @@ use std::test::Fail;
 use std::time::Duration;
 use std::{io, thread};
 use urb_daemon::{ErrorOutput, ProgramStage, Reports, StageReports, TEXT_ROOM};
-use urb_worker::{Station, Watch};
+use urb_link::Station;
+use urb_worker::Watch;
 
 /// An output like a full pipe. Each write says that it has begun, and waits until it is let through.
 #[derive(Drop)]

@@ -12,8 +12,11 @@ use std::thread;
 use std::time::{Clock, Duration};
 use urb_cli::{ServeOptions, ServiceOptions};
 use urb_daemon::{Host, Network, NetworkFault, Port, open_link, open_network, run_group_at};
+use urb_desk::{ClientLimits, LEAST_CONNECTIONS};
 use urb_group::{Config, Group, MemStable};
-use urb_worker::{ClientLimits, LEAST_CONNECTIONS, Reporter, Silent, Station, Watch};
+use urb_link::Station;
+use urb_turn::{Reporter, Silent};
+use urb_worker::Watch;
 
 // What a client sends to a group of one node. It is a submit, a read that shows it, a status, and a
 // submit whose number isn't the next. Then come an unknown opcode, a read of the place 0, a read

@@ -4,7 +4,7 @@ use std::test::Fail;
 use urb_daemon::Reports;
 use urb_names::{NodeId, Refusal};
 use urb_terminal::Terminal;
-use urb_worker::{Change, Reporter};
+use urb_turn::{Change, Reporter};
 
 #[test]
 fn each_change_of_a_node_is_one_line_on_standard_error(rt: HostRuntime) -> Result<(), Fail> {

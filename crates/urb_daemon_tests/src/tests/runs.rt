@@ -13,7 +13,7 @@ use urb_daemon::{
 use urb_group::{MemStable, Record, Stable, StoreFault};
 use urb_names::{ClientId, Message, Name, NodeId, Refusal, Rule};
 use urb_terminal::Terminal;
-use urb_worker::Silent;
+use urb_turn::Silent;
 
 /// A store in memory that answers `NoMemory` when it is asked for its records.
 #[derive(Drop)]

@@ -18,7 +18,7 @@ use urb_daemon::{
 };
 use urb_group::MemStable;
 use urb_terminal::Terminal;
-use urb_worker::Silent;
+use urb_turn::Silent;
 
 // A folder of this test's own, new and empty, whose socket of node 1 has this path.
 const FOLDER: &str = "urbd_sockets";

@@ -7,7 +7,9 @@ use std::test::Fail;
 use std::thread;
 use std::time::{Clock, Duration};
 use urb_daemon::Host;
-use urb_worker::{Silent, Station, Watch};
+use urb_link::Station;
+use urb_turn::Silent;
+use urb_worker::Watch;
 
 // Bytes that are no packet (10): another beginning, another version, and a packet that is cut off.
 const NO_PACKETS: [&[u8]; 3] = [

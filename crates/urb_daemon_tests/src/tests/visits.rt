@@ -13,7 +13,7 @@ use urb_cli::{Fault, ServeOptions};
 use urb_daemon::{Console, Host, fault_of_folder, fault_of_serve, run_journals};
 use urb_folder::{FolderClaim, NodeFile, close_journals, open_journals};
 use urb_terminal::Terminal;
-use urb_worker::Silent;
+use urb_turn::Silent;
 
 /// How a group leaves its journals at its end. They are closed, so that only one file is left of
 /// each; or they are dropped, as after a kill.

@@ -2,7 +2,7 @@
 use Rattle.std.specs.Prelude.{false, nat_le, nat_lt, suc, ℕ, ◌&&◌, ◌<◌, ◌≡◌, ◌≤◌}
 use Rattle.urb_feed.specs.MissingNames.{lacks}
 use Rattle.urb_group.specs.GroupViews.{GroupView, Shows}
-use Rattle.urb_group.specs.World.{World}
+use Rattle.urb_world.specs.World.{World}
 use Rattle.urb_names.specs.Names.{name}
 use Rattle.urb_names.specs.declared.limits.TheConstants.{MAX_NODES}
 

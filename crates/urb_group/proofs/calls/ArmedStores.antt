@@ -10,7 +10,7 @@ use Rattle.urb_group.specs.GroupStores.{held_draft, held_in}
 use Rattle.urb_group.specs.internal.ClusterTies.{IsTied, draft_at}
 use Rattle.urb_group.specs.ClusterCalls.{Breaks}
 use Rattle.urb_group.specs.GroupViews.{GroupView, IsSound, Shows, view_of}
-use Rattle.urb_group.specs.World.{opened, started}
+use Rattle.urb_world.specs.World.{opened, started}
 use Rattle.urb_names.specs.LabelsAndContents.{Limits}
 use Rattle.urb_names.specs.Nodes.{is_node}
 use Rattle.urb_node.specs.Part.{State}

@@ -2,7 +2,7 @@
 use Rattle.std.proofs.Common.{List, ap, slice_index_or, subst, ◌≡◌}
 use Rattle.std.specs.List.{All}
 use Rattle.urb_group.specs.StoreQuestions.{IsBlank}
-use Rattle.urb_group.specs.MemoryStores.{in_memory}
+use Rattle.urb_world.specs.MemoryStores.{in_memory}
 use Rattle.urb_stable.specs.MemoryStores.{Memory, empty_memory}
 use Rattle.urb_stable.specs.StableStorage.{IsContents}
 

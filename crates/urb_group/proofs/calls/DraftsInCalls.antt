@@ -4,7 +4,7 @@ use Rattle.std.proofs.Common.{ltb-true, subst, suc, sym, true, ℕ, ◌-◌, ◌
 use Rattle.std.proofs.Common.{inr}
 use Rattle.std.specs.Prelude.{slice_set}
 use Rattle.std.proofs.lemmas.Bool.{and_parts, cond-true}
-use Rattle.urb_group.proofs.steps.DraftsInSteps.{event_node, step-at}
+use Rattle.urb_world.proofs.steps.DraftsInSteps.{event_node, step-at}
 use Rattle.urb_group.proofs.calls.HeldDrafts.{steps-calm, steps-size, tied-kept, tied-set}
 use Rattle.urb_group.specs.GroupCalls.{HoldsDraft, Steps, Takes, Ticks}
 use Rattle.urb_group.specs.GroupStores.{held_draft, held_in}
@@ -12,7 +12,7 @@ use Rattle.urb_group.specs.internal.ClusterTies.{IsTied}
 use Rattle.urb_group.specs.ClusterCalls.{Reacts}
 use Rattle.urb_group.specs.internal.CallReplies.{IsWithin, noted_in, told_of}
 use Rattle.urb_group.specs.GroupViews.{GroupView, IsSound, view_of}
-use Rattle.urb_group.specs.Step.{Event, Tick, step}
+use Rattle.urb_world.specs.Step.{Event, Tick, step}
 use Rattle.urb_group.specs.declared.taken.Taken.{Taken}
 use Rattle.urb_group.specs.declared.taken.Taken.TheVariants as taken
 use Rattle.urb_names.specs.CarriedPackets.{Carried}

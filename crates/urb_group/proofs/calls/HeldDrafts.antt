@@ -5,14 +5,14 @@ use Rattle.std.proofs.Common.{◌<◌, ◌==◌, ◌∙◌, ◌≡◌, ◌≢◌
 use Rattle.std.specs.Prelude.{slice_index_or, slice_set}
 use Rattle.std.proofs.lemmas.Bool.{cond_both}
 use Rattle.urb_group.proofs.shown.AgreeingWorlds.{sound-step}
-use Rattle.urb_group.proofs.steps.DraftsInSteps.{CalmAs, event_node, step-calm, step-elsewhere}
-use Rattle.urb_group.proofs.steps.DraftsInSteps.{step-size}
+use Rattle.urb_world.proofs.steps.DraftsInSteps.{CalmAs, event_node, step-calm, step-elsewhere}
+use Rattle.urb_world.proofs.steps.DraftsInSteps.{step-size}
 use Rattle.urb_group.specs.GroupCalls.{Happens, Steps}
 use Rattle.urb_group.specs.GroupStores.{held_draft, held_in}
 use Rattle.urb_group.specs.internal.ClusterTies.{IsTied, draft_at}
 use Rattle.urb_group.specs.GroupViews.{GroupView, IsSound, Shows}
-use Rattle.urb_group.specs.Step.{Event, step}
-use Rattle.urb_group.specs.World.{World}
+use Rattle.urb_world.specs.Step.{Event, step}
+use Rattle.urb_world.specs.World.{World}
 use Rattle.urb_names.specs.LabelsAndContents.{Limits}
 use Rattle.urb_names.specs.Nodes.{is_node}
 use Rattle.urb_node.specs.Part.{Down, Node, Ready, State, Storing}

@@ -7,9 +7,9 @@ use Rattle.std.proofs.lemmas.List.{length-take-le, take-append-drop, take_more}
 use Rattle.std.proofs.lemmas.Option.{slice_get_read}
 use Rattle.urb_group.proofs.shown.AgreeingWorlds.{sound-kept}
 use Rattle.urb_group.proofs.calls.HeldDrafts.{steps-sound}
-use Rattle.urb_group.proofs.safety.RunsOfKeptWorlds.{kept-agree, kept-grow, kept-told}
-use Rattle.urb_group.proofs.safety.Refusals.{refused-stays}
-use Rattle.urb_group.proofs.safety.SafeWorlds.{one_message, safe}
+use Rattle.urb_world.proofs.safety.RunsOfKeptWorlds.{kept-agree, kept-grow, kept-told}
+use Rattle.urb_world.proofs.safety.Refusals.{refused-stays}
+use Rattle.urb_world.proofs.safety.SafeWorlds.{one_message, safe}
 use Rattle.urb_group.proofs.calls.StoreCallEffects.{held-self}
 use Rattle.urb_group.proofs.calls.StoreAnswers.{commit-stored, fail-down, held-as}
 use Rattle.urb_group.specs.GroupCalls.{Steps}
@@ -18,12 +18,13 @@ use Rattle.urb_group.specs.ClusterCalls.{Applies, Reacts, RestartsBy, Returns, S
 use Rattle.urb_group.specs.ClusterCalls.{stored_as}
 use Rattle.urb_group.specs.Commands.{AreEvents, At_end, By_event, By_none, IsEventOf, IsUnread}
 use Rattle.urb_group.specs.Commands.{is_no_memory, reply_of}
-use Rattle.urb_group.specs.RunInvariant.{IsKept}
-use Rattle.urb_group.specs.PlayedCommands.{Follows, IsPromised, Plays, Runs, EndsEarly, told_in}
+use Rattle.urb_world.specs.RunInvariant.{IsKept}
+use Rattle.urb_group.specs.PlayedCommands.{Follows, Plays, Runs, EndsEarly, told_in}
+use Rattle.urb_world.specs.PromisedWorlds.{IsPromised}
 use Rattle.urb_group.specs.GroupViews.{GroupView, IsSound, Shows}
-use Rattle.urb_group.specs.Step.{Commit, Event, Fail, Restart, Run, run, step}
-use Rattle.urb_group.specs.TruthfulPackets.{AreTruthful, ToldTruth}
-use Rattle.urb_group.specs.World.{World}
+use Rattle.urb_world.specs.Step.{Commit, Event, Fail, Restart, Run, run, step}
+use Rattle.urb_world.specs.TruthfulPackets.{AreTruthful, ToldTruth}
+use Rattle.urb_world.specs.World.{World}
 use Rattle.urb_group.specs.declared.command.Command.{Command}
 use Rattle.urb_group.specs.declared.command.Command.TheVariants as command
 use Rattle.urb_group.specs.declared.reply.Reply.{Reply}

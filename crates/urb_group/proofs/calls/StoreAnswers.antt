@@ -8,9 +8,9 @@ use Rattle.urb_group.specs.GroupStores.{held_draft, held_in}
 use Rattle.urb_group.specs.internal.CallReplies.{IsUnfallen, IsUnstored, unfallen_in, unstored_in}
 use Rattle.urb_group.specs.GroupViews.{GroupView, IsSound, Shows, view_of}
 use Rattle.urb_group.specs.ReportedStates.{state_of}
-use Rattle.urb_group.specs.Step.{Commit, Crash, Event, Fail, Restart, at_node, step, world_after}
-use Rattle.urb_group.specs.TruthfulPackets.{AreTruthful}
-use Rattle.urb_group.specs.World.{World, truthful}
+use Rattle.urb_world.specs.Step.{Commit, Crash, Event, Fail, Restart, at_node, step, world_after}
+use Rattle.urb_world.specs.TruthfulPackets.{AreTruthful}
+use Rattle.urb_world.specs.World.{World, truthful}
 use Rattle.urb_names.specs.CarriedPackets.{Carried}
 use Rattle.urb_group.specs.declared.state.State.{State}
 use Rattle.urb_names.specs.LabelsAndContents.{Limits}

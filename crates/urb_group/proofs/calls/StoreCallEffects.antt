@@ -4,7 +4,7 @@ use Rattle.std.proofs.Common.{refl, subst, sym, true, ℕ, ◌-◌, ◌<◌, ◌
 use Rattle.std.specs.Prelude.{Bool, slice_set}
 use Rattle.std.proofs.lemmas.Bool.{and_parts}
 use Rattle.std.proofs.lemmas.Option.{slice_get_read}
-use Rattle.urb_group.proofs.steps.DraftsInSteps.{event_node}
+use Rattle.urb_world.proofs.steps.DraftsInSteps.{event_node}
 use Rattle.urb_group.proofs.calls.DraftsInCalls.{node-bounds, reacts-tied, refused-tied}
 use Rattle.urb_group.proofs.calls.HeldDrafts.{tied-set}
 use Rattle.urb_group.proofs.calls.StoreAnswers.{held-as}
@@ -15,7 +15,7 @@ use Rattle.urb_group.specs.ClusterCalls.{BreaksArmed, FailsHeld, Reads, Restarts
 use Rattle.urb_group.specs.ClusterCalls.{Stores, StoresHeld, is_fallen, stored_as}
 use Rattle.urb_group.specs.internal.CallReplies.{IsUnfallen, IsUnstored}
 use Rattle.urb_group.specs.GroupViews.{GroupView, view_of}
-use Rattle.urb_group.specs.Step.{Event, Fail, Restart}
+use Rattle.urb_world.specs.Step.{Event, Fail, Restart}
 use Rattle.urb_names.specs.Nodes.{is_node}
 use Rattle.urb_names.specs.declared.refusal.Refusal.{Refusal}
 use Rattle.urb_node.specs.Replies.{Refused, Reply}

@@ -5,9 +5,9 @@ use Rattle.std.proofs.Common.{sym, zero, ℕ, ⊎_elim, ◌<◌, ◌∷◌, ◌�
 use Rattle.std.proofs.lemmas.Bool.{cases_lt}
 use Rattle.urb_group.proofs.shown.SoundConditions.{fitting-own}
 use Rattle.urb_group.specs.GroupViews.{GroupView, Shows, view_of}
-use Rattle.urb_group.specs.World.{AreImages, opened}
+use Rattle.urb_world.specs.World.{AreImages, opened}
 use Rattle.urb_names.specs.LabelsAndContents.{Limits}
-use Rattle.urb_group.proofs.steps.Runs.{past_end}
+use Rattle.urb_world.proofs.steps.Runs.{past_end}
 use Rattle.urb_node.proofs.Openings.{nothing-shows}
 use Rattle.urb_node.specs.Part.{opened_node}
 use Rattle.urb_node.specs.NodeViews.{NodeView, ShowsNode, no_view}

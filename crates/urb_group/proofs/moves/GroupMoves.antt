@@ -12,19 +12,20 @@ use Rattle.urb_node.specs.Steps.{submits}
 use Rattle.urb_group.specs.GroupCalls.{ComesUp, Commits, GoesDown, HoldsDraft, Takes, Ticks}
 use Rattle.urb_group.specs.internal.PlaceCalls.{CommitsAt, CrashesAt, FailsAt, HandsBack, HoldsAt}
 use Rattle.urb_group.specs.internal.PlaceCalls.{Leads, LeadsAt, Outcomes, RestartsAt, SubmitsAt}
-use Rattle.urb_group.specs.internal.PlaceCalls.{TicksAt, Told, commits_as, crashes_as, fails_as}
+use Rattle.urb_group.specs.internal.PlaceCalls.{CallResult, TicksAt, commits_as, crashes_as}
+use Rattle.urb_group.specs.internal.PlaceCalls.{fails_as}
 use Rattle.urb_group.specs.internal.PlaceCalls.{restarts_as, ticks_as, told_down, told_sent}
 use Rattle.urb_group.specs.internal.PlaceCalls.{told_stored, told_taken, told_up}
 use Rattle.urb_group.specs.PlaceViews.{memory_in, shown}
 use Rattle.urb_group.specs.internal.PlaceInvariant.{IsGroup, ShowsAt}
 use Rattle.urb_group.specs.GroupViews.{Shows}
-use Rattle.urb_group.specs.Step.{Commit, Crash, Event, Fail, Restart, Submit, Tick, at_node, step}
-use Rattle.urb_group.specs.World.{World}
+use Rattle.urb_world.specs.Step.{Commit, Crash, Event, Fail, Restart, Submit, Tick, at_node, step}
+use Rattle.urb_world.specs.World.{World}
 use Rattle.urb_group.specs.declared.node_moves.Node.{Node as Place}
 use Rattle.urb_group.specs.declared.taken.Taken.{Taken}
 use Rattle.urb_group.specs.declared.taken.Taken.TheVariants as taken
 use Rattle.urb_group.proofs.shown.NodeMoves.{StepsTo, holds_draft, lifted, place_shows, still_group}
-use Rattle.urb_group.proofs.steps.StepCases.{step-outcome}
+use Rattle.urb_world.proofs.steps.StepCases.{step-outcome}
 
 -- A node moved, and is in its place again.
 module _ {A : Type 0} {size : Limits} {places new : List (Place A)}
@@ -42,7 +43,7 @@ module _ {A : Type 0} {size : Limits} {places new : List (Place A)}
     own_number = (group.placed.each i node was).number ∙ sym own
 
     -- the step in each world that the group showed, and the group after it
-    steps : (told : Told) → LeadsAt outcome node told moved
+    steps : (told : CallResult) → LeadsAt outcome node told moved
         → StepsTo (shown size places) event told (shown size new) × IsGroup size new
     steps told leads =
         subst (λ (ps : List (Place A)). StepsTo (shown size places) event told (shown size ps)

@@ -8,7 +8,7 @@ use Rattle.urb_node.specs.NodeMemories.{Memory, new_memory}
 use Rattle.urb_group.specs.PlaceViews.{shown, view_at}
 use Rattle.urb_group.specs.internal.PlaceInvariant.{IsGroup, IsNumbered}
 use Rattle.urb_group.specs.GroupViews.{Shows}
-use Rattle.urb_group.specs.World.{started}
+use Rattle.urb_world.specs.World.{started}
 use Rattle.urb_group.specs.declared.node_moves.Node.{Node as Place}
 use Rattle.urb_group.specs.declared.node_moves.Node.TheVariants as place
 use Rattle.urb_group.proofs.shown.ShownWorlds.{shows-new, sound-new}

@@ -20,7 +20,7 @@ use Rattle.urb_group.specs.GroupCalls.{Opens}
 use Rattle.urb_group.specs.PlaceViews.{memory_in, shown, view_at}
 use Rattle.urb_group.specs.internal.PlaceInvariant.{IsGroup, IsNumbered, ShowsAt}
 use Rattle.urb_group.specs.GroupViews.{Shows}
-use Rattle.urb_group.specs.World.{AreImages, opened}
+use Rattle.urb_world.specs.World.{AreImages, opened}
 use Rattle.urb_group.specs.declared.node_moves.Node.{Node as Place}
 use Rattle.urb_group.specs.declared.node_moves.Node.TheVariants as place
 

@@ -26,8 +26,8 @@ use Rattle.urb_group.specs.internal.PlaceInvariant.{IsGroup, ShowsAt}
 use Rattle.urb_group.specs.internal.PacketTargets.{AreEnds, HoldsPair, IsAsCertified, TellsTruth}
 use Rattle.urb_group.specs.internal.PacketTargets.{is_for_node}
 use Rattle.urb_group.specs.GroupViews.{GroupView, Shows, view_of}
-use Rattle.urb_group.specs.Step.{Arrive, at_node, is_for, step}
-use Rattle.urb_group.specs.World.{World, bears_out, stored, truthful}
+use Rattle.urb_world.specs.Step.{Arrive, at_node, is_for, step}
+use Rattle.urb_world.specs.World.{World, bears_out, stored, truthful}
 use Rattle.urb_group.specs.declared.node_moves.Node.{Node as Place}
 use Rattle.urb_group.specs.declared.node_moves.Node.TheVariants as place
 use Rattle.urb_group.specs.declared.taken.Taken.{Taken}
@@ -35,7 +35,7 @@ use Rattle.urb_group.proofs.shown.SoundConditions.{arrival-meets}
 use Rattle.urb_group.proofs.moves.GroupMoves.{takes}
 use Rattle.urb_group.proofs.shown.NodeMoves.{place_shows}
 use Rattle.urb_group.proofs.shown.ReplacedElements.{read_mapped}
-use Rattle.urb_group.proofs.steps.ConfirmedPackets.{borne-pair}
+use Rattle.urb_world.proofs.steps.ConfirmedPackets.{borne-pair}
 
 -- ---- what a node has stored
 

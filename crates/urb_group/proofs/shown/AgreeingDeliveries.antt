@@ -6,14 +6,14 @@ use Rattle.std.proofs.Common.{◌≤◌, ◌⊎◌}
 use Rattle.std.proofs.lemmas.Bool.{and_parts, cases_eq, cases_lt, or_left, or_right}
 use Rattle.std.proofs.lemmas.List.{length-map}
 use Rattle.urb_names.specs.declared.limits.TheConstants.{MAX_CAP, MAX_NODES}
-use Rattle.urb_group.proofs.safety.AgreeingLogs.{agree-now}
+use Rattle.urb_world.proofs.safety.AgreeingLogs.{agree-now}
 use Rattle.urb_group.proofs.shown.Deliveries.{deliveries-known, known-begins, length-known}
-use Rattle.urb_group.proofs.steps.Runs.{all_kept}
-use Rattle.urb_group.proofs.safety.SafeWorlds.{safe}
+use Rattle.urb_world.proofs.steps.Runs.{all_kept}
+use Rattle.urb_world.proofs.safety.SafeWorlds.{safe}
 use Rattle.urb_group.specs.DeliveredMessages.{Agree, delivered_at, known, sent_by}
-use Rattle.urb_group.specs.SafetyProperties.{Safe}
+use Rattle.urb_world.specs.SafetyProperties.{Safe}
 use Rattle.urb_group.specs.GroupViews.{GroupView, IsSound}
-use Rattle.urb_group.specs.World.{World, stored}
+use Rattle.urb_world.specs.World.{World, stored}
 use Rattle.urb_names.proofs.FoundPairs.{has_pair-found}
 use Rattle.urb_names.proofs.LogRows.{has-row, has_name-part}
 use Rattle.urb_names.proofs.SameNames.{same_name-same}
@@ -30,7 +30,7 @@ use Rattle.urb_stable.specs.Records.{pend}
 
 -- ---- one sender's deliveries
 
--- a filter of what a function makes keeps what it makes of those that pass
+-- mapped elements that pass a test are those whose origins pass it, mapped
 pub filter-mapped : {A B : Type 0} (f : A → B) (test : B → Bool) (xs : List A)
     → filter test (map f xs) ≡ map f (filter (λ x. test (f x)) xs)
 filter-mapped f test [] = refl

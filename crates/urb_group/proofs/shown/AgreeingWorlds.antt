@@ -3,13 +3,13 @@
 use Rattle.std.proofs.Common.{Bool, List, None, Some, [], ap, ap₂, cond, false, is_none}
 use Rattle.std.proofs.Common.{is_some, not, refl, subst, suc, sym, true, ℕ, ⊎_elim, ◌&&◌, ◌++◌}
 use Rattle.std.proofs.Common.{◌==◌, ◌∙◌, ◌∷◌, ◌≡◌}
-use Rattle.urb_group.proofs.steps.OneNodeStep.{caused-grows}
-use Rattle.urb_group.proofs.steps.Runs.{step-keeps}
-use Rattle.urb_group.proofs.steps.ShortPayloads.{step-short}
-use Rattle.urb_group.specs.RunInvariant.{DoubtShort, IsKept, MayJoin, NodeKept, NodeShort, StateKept}
+use Rattle.urb_world.proofs.steps.OneNodeStep.{caused-grows}
+use Rattle.urb_world.proofs.steps.Runs.{step-keeps}
+use Rattle.urb_world.proofs.steps.ShortPayloads.{step-short}
+use Rattle.urb_world.specs.RunInvariant.{DoubtShort, IsKept, MayJoin, NodeKept, NodeShort, StateKept}
 use Rattle.urb_group.specs.GroupViews.{GroupView, IsSound, Shows}
-use Rattle.urb_group.specs.Step.{Event, step}
-use Rattle.urb_group.specs.World.{World, stored, updated}
+use Rattle.urb_world.specs.Step.{Event, step}
+use Rattle.urb_world.specs.World.{World, stored, updated}
 use Rattle.urb_names.proofs.FoundPairs.{Unique, has_pair-cases, has_pair-left, has_pair-right}
 use Rattle.urb_names.proofs.FoundPairs.{same_found}
 use Rattle.urb_names.proofs.Places.{same_at_each}

@@ -5,18 +5,19 @@ use Rattle.std.proofs.Common.{ne_eqb, option_map, refl, subst, sym, true, ℕ, �
 use Rattle.std.proofs.Common.{◌≢◌, ◌+◌}
 use Rattle.std.proofs.lemmas.Bool.{or_left, or_right}
 use Rattle.std.proofs.lemmas.List.{length-map}
-use Rattle.urb_group.proofs.safety.AgreeingLogs.{entries-all_grow}
+use Rattle.urb_world.proofs.safety.AgreeingLogs.{entries-all_grow}
 use Rattle.urb_group.proofs.shown.AgreeingWorlds.{sound-kept, sound-step}
-use Rattle.urb_group.proofs.steps.DraftsInSteps.{step-elsewhere}
-use Rattle.urb_group.proofs.steps.Growth.{step-goes_on}
-use Rattle.urb_group.proofs.safety.SafeWorlds.{safe}
-use Rattle.urb_group.proofs.safety.StoredRecords.{commit-released, step-stored}
+use Rattle.urb_world.proofs.steps.DraftsInSteps.{step-elsewhere}
+use Rattle.urb_world.proofs.steps.Growth.{step-goes_on}
+use Rattle.urb_world.proofs.safety.SafeWorlds.{safe}
+use Rattle.urb_world.proofs.safety.StoredRecords.{commit-released, step-stored}
 use Rattle.urb_group.specs.GroupCalls.{Steps}
-use Rattle.urb_group.specs.DeliveredMessages.{Delivery, Follows, StoresNothing, delivered_at, event_node}
+use Rattle.urb_group.specs.DeliveredMessages.{Delivery, Follows, delivered_at}
+use Rattle.urb_world.specs.EventEffects.{StoresNothing, event_node}
 use Rattle.urb_group.specs.DeliveredMessages.{known}
 use Rattle.urb_group.specs.GroupViews.{GroupView, IsSound, Shows, view_of}
-use Rattle.urb_group.specs.Step.{Commit, Event, step}
-use Rattle.urb_group.specs.World.{World, stored}
+use Rattle.urb_world.specs.Step.{Commit, Event, step}
+use Rattle.urb_world.specs.World.{World, stored}
 use Rattle.urb_names.proofs.SameNames.{same_name-same}
 use Rattle.urb_names.specs.ListPrefixes.{Begins}
 use Rattle.urb_names.specs.Names.{has_name, same_name}

@@ -13,26 +13,26 @@ use Rattle.urb_node.specs.Part.{Node, Storing}
 use Rattle.urb_node.specs.Replies.{Reply}
 use Rattle.urb_node.specs.NodeViews.{NodeView, ShowsNode, no_view}
 use Rattle.urb_node.specs.NodeMemories.{IsSameNode}
-use Rattle.urb_group.specs.DeliveredMessages.{event_node}
+use Rattle.urb_world.specs.EventEffects.{event_node}
 use Rattle.urb_group.specs.GroupCalls.{Happens, HoldsDraft, IsRefused, Steps}
-use Rattle.urb_group.specs.internal.PlaceCalls.{IsHeldAt, Leads, LeadsAt, Outcomes, Told}
+use Rattle.urb_group.specs.internal.PlaceCalls.{CallResult, IsHeldAt, Leads, LeadsAt, Outcomes}
 use Rattle.urb_group.specs.PlaceViews.{memory_in, shown, view_at}
 use Rattle.urb_group.specs.internal.PlaceInvariant.{IsGroup, IsNumbered, ShowsAt}
 use Rattle.urb_group.specs.GroupViews.{GroupView, IsSound, Shows, view_of}
-use Rattle.urb_group.specs.Step.{Event, at_node, step, world_after}
-use Rattle.urb_group.specs.World.{World}
+use Rattle.urb_world.specs.Step.{Event, at_node, step, world_after}
+use Rattle.urb_world.specs.World.{World}
 use Rattle.urb_group.specs.declared.node_moves.Node.{Node as Place}
 use Rattle.urb_group.specs.declared.node_moves.Node.TheVariants as place
 use Rattle.urb_group.proofs.shown.AgreeingWorlds.{sound-kept, sound-step}
-use Rattle.urb_group.proofs.steps.Growth.{step-goes_on}
-use Rattle.urb_group.proofs.steps.StepCases.{IsNoArrival, outcome_of, step-outcome}
+use Rattle.urb_world.proofs.steps.Growth.{step-goes_on}
+use Rattle.urb_world.proofs.steps.StepCases.{IsNoArrival, outcome_of, step-outcome}
 use Rattle.urb_group.proofs.shown.ReplacedElements.{read_after_write, read_mapped, read_within}
 use Rattle.urb_group.proofs.shown.ReplacedElements.{set_same}
-use Rattle.urb_group.proofs.steps.Runs.{step-keeps}
+use Rattle.urb_world.proofs.steps.Runs.{step-keeps}
 use Rattle.urb_group.proofs.shown.ShownWorlds.{at_no_node, at_some_node, shows-after}
 
 -- the result of an event in every world that a group shows
-abbrev pub StepsTo : GroupView → Event → Told → GroupView → Type 0
+abbrev pub StepsTo : GroupView → Event → CallResult → GroupView → Type 0
 StepsTo old event (Ok reply) new = Steps old event (λ r. r ≡ reply) new
 StepsTo old event (Err r) new = IsRefused old event r new
 
@@ -101,7 +101,7 @@ module _ {A : Type 0} (size : Limits) (places : List (Place A)) (group : IsGroup
     abbrev outcome_in : World → Reply × Node
     outcome_in w = outcome w.size (suc i) (w.node (suc i))
 
-    leads_in : (told : Told) → LeadsAt outcome node told moved → (w : World)
+    leads_in : (told : CallResult) → LeadsAt outcome node told moved → (w : World)
         → Shows (shown size places) w → Leads (outcome_in w) node told moved
     leads_in told leads w s =
         subst (λ (l : Limits). Leads (outcome l (suc i) (w.node (suc i))) node told moved)
@@ -114,7 +114,7 @@ module _ {A : Type 0} (size : Limits) (places : List (Place A)) (group : IsGroup
     step_is w s =
         is w s ∙ at_some_node w i (outcome_in w) (subst (λ (l : Limits). i < l.n) s.size below)
 
-    same_node : (told : Told) → LeadsAt outcome node told moved
+    same_node : (told : CallResult) → LeadsAt outcome node told moved
         → IsSameNode (memory_in node) (memory_in moved)
     same_node (Ok reply) leads =
         (leads_in (Ok reply) leads group.sound.world group.sound.shows).same
@@ -140,7 +140,7 @@ module _ {A : Type 0} (size : Limits) (places : List (Place A)) (group : IsGroup
 
     -- if the node in one place moves as the event's outcome says, the event happens in every world
     -- that the group shows
-    pub lifted : (told : Told) → LeadsAt outcome node told moved
+    pub lifted : (told : CallResult) → LeadsAt outcome node told moved
         → StepsTo (shown size places) event told (shown size (set places i moved))
     lifted (Ok reply) leads = λ w s.
         happens (shown size places) (shown size (set places i moved)) event
@@ -153,7 +153,7 @@ module _ {A : Type 0} (size : Limits) (places : List (Place A)) (group : IsGroup
       ap (λ (ps : List (Place A)). shown size ps) (unmoved r leads),
     )
 
-    sound_after : (told : Told) → LeadsAt outcome node told moved
+    sound_after : (told : CallResult) → LeadsAt outcome node told moved
         → IsSound (shown size (set places i moved))
     sound_after (Ok reply) leads =
         sound-step (shown size places) (shown size (set places i moved)) event group.sound
@@ -162,7 +162,7 @@ module _ {A : Type 0} (size : Limits) (places : List (Place A)) (group : IsGroup
         subst (λ (ps : List (Place A)). IsSound (shown size ps)) (sym (unmoved r leads)) group.sound
 
     -- the group is sound after the move, with each node in its place
-    pub still_group : (told : Told) → LeadsAt outcome node told moved
+    pub still_group : (told : CallResult) → LeadsAt outcome node told moved
         → IsGroup size (set places i moved)
     still_group told leads = record {
       placed = record {

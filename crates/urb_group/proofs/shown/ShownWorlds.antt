@@ -4,10 +4,10 @@ use Rattle.std.proofs.Common.{get_or-set_same, inl, inr, le-ltb, length, lt-ltb,
 use Rattle.std.proofs.Common.{refl, replicate, slice_index_or, slice_set, subst, suc, sym, true}
 use Rattle.std.proofs.Common.{zero, ℕ, ◌++◌, ◌<◌, ◌==◌, ◌∙◌, ◌∷◌, ◌≡◌, ◌⊎◌}
 use Rattle.std.proofs.lemmas.Bool.{and_from, and_right, cases_eq, cond-false, cond-true}
-use Rattle.urb_group.proofs.steps.Runs.{new-kept, opened-kept}
+use Rattle.urb_world.proofs.steps.Runs.{new-kept, opened-kept}
 use Rattle.urb_group.specs.GroupViews.{GroupView, IsSound, Shows, view_of}
-use Rattle.urb_group.specs.Step.{at_node, world_after}
-use Rattle.urb_group.specs.World.{AreImages, World, image_of, opened, started, updated}
+use Rattle.urb_world.specs.Step.{at_node, world_after}
+use Rattle.urb_world.specs.World.{AreImages, World, image_of, opened, started, updated}
 use Rattle.urb_names.specs.LabelsAndContents.{Limits}
 use Rattle.urb_names.specs.Nodes.{is_node}
 use Rattle.urb_node.proofs.Openings.{nothing-shows}

@@ -2,11 +2,11 @@
 use Rattle.std.proofs.Common.{List, [], arith, ltb-true, nat_lt, subst, suc, sym, true, ℕ, ◌<◌, ◌∙◌}
 use Rattle.std.proofs.Common.{◌≡◌, ◌≤◌}
 use Rattle.std.proofs.lemmas.Bool.{and_parts}
-use Rattle.urb_group.proofs.steps.DraftedRecords.{AllKept, agree, to_sender}
-use Rattle.urb_group.proofs.steps.Runs.{all_kept, fitting-kept}
+use Rattle.urb_world.proofs.steps.DraftedRecords.{AllKept, agree, to_sender}
+use Rattle.urb_world.proofs.steps.Runs.{all_kept, fitting-kept}
 use Rattle.urb_group.proofs.shown.ShownWorlds.{kept-own}
 use Rattle.urb_group.specs.GroupViews.{GroupView, IsSound, view_of}
-use Rattle.urb_group.specs.World.{AreImages, World, image_of, stored}
+use Rattle.urb_world.specs.World.{AreImages, World, image_of, stored}
 use Rattle.urb_names.proofs.FoundPairs.{has_pair-found}
 use Rattle.urb_names.specs.LabelsAndContents.{Content, Label, Limits}
 use Rattle.urb_names.specs.Pairs.{has_pair}

@@ -1,11 +1,11 @@
 -- A stop of all nodes of a group, some of whose stores hold records ahead.
 use Rattle.std.proofs.Common.{List, [], inl, inr, refl, subst, sym, ℕ, ◌∙◌}
 use Rattle.urb_group.proofs.shown.AgreeingWorlds.{sound-kept}
-use Rattle.urb_group.proofs.stops.AheadWorlds.{follow-grows, survives-ahead}
-use Rattle.urb_group.specs.StoresAhead.{MayFollow, MayLeaveAhead}
+use Rattle.urb_world.proofs.stops.AheadWorlds.{follow-grows, survives-ahead}
+use Rattle.urb_world.specs.StoresAhead.{MayFollow, MayLeaveAhead}
 use Rattle.urb_group.specs.GroupViews.{GroupView, IsSound, Shows, view_of}
-use Rattle.urb_group.specs.ProcessStops.{GoesOnIn}
-use Rattle.urb_group.specs.World.{World, stored}
+use Rattle.urb_world.specs.ProcessStops.{GoesOnIn}
+use Rattle.urb_world.specs.World.{World, stored}
 use Rattle.urb_names.specs.LabelsAndContents.{Limits}
 use Rattle.urb_node.specs.NodeViews.{ShowsNode}
 use Rattle.urb_stable.proofs.KeptRules.{Grows}

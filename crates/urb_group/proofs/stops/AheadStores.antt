@@ -2,16 +2,16 @@
 use Rattle.std.proofs.Common.{Bool, List, Option, [], ap, append_assoc, append-nil, eqb-true}
 use Rattle.std.proofs.Common.{false, length, refl, subst, suc, sym, true, ℕ, ◌++◌, ◌==◌, ◌∙◌, ◌∷◌}
 use Rattle.std.proofs.Common.{◌≡◌}
-use Rattle.urb_group.proofs.steps.DraftsInSteps.{step-elsewhere, step-size}
-use Rattle.urb_group.proofs.steps.Growth.{pair-begins}
-use Rattle.urb_group.proofs.stops.AheadWorlds.{follow-grows}
+use Rattle.urb_world.proofs.steps.DraftsInSteps.{step-elsewhere, step-size}
+use Rattle.urb_world.proofs.steps.Growth.{pair-begins}
+use Rattle.urb_world.proofs.stops.AheadWorlds.{follow-grows}
 use Rattle.urb_group.proofs.stops.StockedClusters.{leaves-held}
-use Rattle.urb_group.proofs.stops.StockedNodes.{commit-node}
+use Rattle.urb_world.proofs.stops.StockedNodes.{commit-node}
 use Rattle.urb_group.proofs.stops.StockedSteps.{IsQuiet, quiet-stays}
-use Rattle.urb_group.specs.StoresAhead.{IsAheadOf, MayFollow}
-use Rattle.urb_group.specs.Step.{Commit, Event, step}
+use Rattle.urb_world.specs.StoresAhead.{IsAheadOf, MayFollow}
+use Rattle.urb_world.specs.Step.{Commit, Event, step}
 use Rattle.urb_group.specs.StoreContents.{HoldsOf, IsStoreOf}
-use Rattle.urb_group.specs.World.{World, stored}
+use Rattle.urb_world.specs.World.{World, stored}
 use Rattle.urb_names.specs.ListPrefixes.{Begins}
 use Rattle.urb_names.specs.LabelsAndContents.{Limits}
 use Rattle.urb_names.specs.Nodes.{is_node}

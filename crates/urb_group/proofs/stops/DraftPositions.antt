@@ -9,11 +9,11 @@ use Rattle.urb_group.proofs.stops.StockedClusters.{beside-stocked}
 use Rattle.urb_group.proofs.calls.StoreAnswers.{held-as}
 use Rattle.urb_group.specs.GroupStores.{Clustered, held_draft}
 use Rattle.urb_group.specs.ClusterCalls.{Applies, Breaks, FailsHeld, StoresHeld}
-use Rattle.urb_group.specs.MemoryStores.{in_memory}
+use Rattle.urb_world.specs.MemoryStores.{in_memory}
 use Rattle.urb_group.specs.InPlaceDrafts.{AppliesInPlace, FailsInPlace, IsInPlace, StoresInPlace}
 use Rattle.urb_group.specs.GroupViews.{GroupView, IsSound, Shows}
 use Rattle.urb_group.specs.StoreContents.{IsStocked, IsStoreOf}
-use Rattle.urb_group.specs.World.{World}
+use Rattle.urb_world.specs.World.{World}
 use Rattle.urb_group.specs.declared.command.Command.{Command}
 use Rattle.urb_group.specs.declared.command.Command.TheVariants as command
 use Rattle.urb_names.specs.LabelsAndContents.{IsLimits}

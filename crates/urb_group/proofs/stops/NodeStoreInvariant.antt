@@ -15,10 +15,10 @@ use Rattle.urb_stable.specs.KeptDrafts.{Keeps}
 use Rattle.urb_stable.specs.PlacedRecords.{Placed}
 use Rattle.urb_stable.specs.declared.stable.Stable.{Ghosts}
 use Rattle.urb_stable.specs.declared.stable.StoreFault.{StoreFault}
-use Rattle.urb_group.proofs.steps.DraftsInSteps.{event_node, step-elsewhere}
+use Rattle.urb_world.proofs.steps.DraftsInSteps.{event_node, step-elsewhere}
 use Rattle.urb_group.proofs.calls.DraftsInCalls.{node-bounds}
-use Rattle.urb_group.proofs.stops.StockedNodes.{Rises, commit-node, fail-node, restart-node}
-use Rattle.urb_group.proofs.stops.StockedNodes.{unfallen-stays}
+use Rattle.urb_world.proofs.stops.StockedNodes.{Rises, commit-node, fail-node, restart-node}
+use Rattle.urb_world.proofs.stops.StockedNodes.{unfallen-stays}
 use Rattle.urb_group.proofs.stops.StockedSteps.{IsQuiet, Stays, quiet-stays}
 use Rattle.urb_group.proofs.calls.StoreAnswers.{IsHeldAs, held-as}
 use Rattle.urb_group.specs.StoreQuestions.{Gives}
@@ -27,9 +27,9 @@ use Rattle.urb_group.specs.GroupStores.{Clustered, held_draft}
 use Rattle.urb_group.specs.ClusterCalls.{Alone, Applies, AsksStore, Reacts, RestartsBy, Returns}
 use Rattle.urb_group.specs.ClusterCalls.{StoreMoves, StoresDraft, StoresHeld, is_fallen, stored_as}
 use Rattle.urb_group.specs.GroupViews.{GroupView, Shows, view_of}
-use Rattle.urb_group.specs.Step.{Commit, Crash, Event, Fail, Restart, Tick, step}
-use Rattle.urb_group.specs.ProcessStops.{MayLeave}
-use Rattle.urb_group.specs.World.{World}
+use Rattle.urb_world.specs.Step.{Commit, Crash, Event, Fail, Restart, Tick, step}
+use Rattle.urb_world.specs.ProcessStops.{MayLeave}
+use Rattle.urb_world.specs.World.{World}
 use Rattle.urb_group.specs.declared.command.Command.{Command}
 use Rattle.urb_group.specs.declared.command.Command.TheVariants as command
 use Rattle.urb_node.specs.declared.cause.Cause.{Cause}

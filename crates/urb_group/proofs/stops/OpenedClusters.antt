@@ -23,10 +23,11 @@ use Rattle.urb_group.proofs.moves.FittingImages.{misfit-unfit}
 use Rattle.urb_group.proofs.stops.NodeStoreInvariant.{one-store}
 use Rattle.urb_group.proofs.stops.SecuredClusters.{read-honest}
 use Rattle.urb_group.proofs.stops.StockedClusters.{asked-left, leaves-held}
-use Rattle.urb_group.proofs.stops.LimitChanges.{starts-on}
+use Rattle.urb_world.proofs.stops.LimitChanges.{starts-on}
 use Rattle.urb_group.proofs.stops.StockedPlays.{chosen-left}
-use Rattle.urb_group.proofs.stops.StoppedWorlds.{goes-on-under}
-use Rattle.urb_group.proofs.steps.Runs.{fitting-kept}
+use Rattle.urb_world.proofs.stops.StoppedWorlds.{goes-on-under}
+use Rattle.urb_group.proofs.stops.StoredWorlds.{outside-stored, stored-kept}
+use Rattle.urb_world.proofs.steps.Runs.{fitting-kept}
 use Rattle.urb_group.proofs.shown.AgreeingWorlds.{sound-kept}
 use Rattle.urb_group.specs.StoreQuestions.{Gives}
 use Rattle.urb_group.specs.GroupCalls.{Opens}
@@ -36,10 +37,10 @@ use Rattle.urb_group.specs.StoreOpenings.{HasStopped, OpensFrom, OpensGiven, Ope
 use Rattle.urb_group.specs.GroupViews.{GroupView, Shows}
 use Rattle.urb_group.specs.StoreContents.{AllHold, AreChosen, HoldsOf, IsKnown, IsStocked, IsStoreOf}
 use Rattle.urb_group.specs.StoreContents.{LeavesOf, RestLeaves, StopLeaves}
-use Rattle.urb_group.specs.ProcessStops.{GoesOnUnder, MayLeave}
-use Rattle.urb_group.specs.StartLimits.{MayStartWith}
-use Rattle.urb_group.specs.RunInvariant.{IsKept}
-use Rattle.urb_group.specs.World.{World, opened}
+use Rattle.urb_world.specs.ProcessStops.{GoesOnUnder, MayLeave}
+use Rattle.urb_world.specs.StartLimits.{MayStartWith}
+use Rattle.urb_world.specs.RunInvariant.{IsKept}
+use Rattle.urb_world.specs.World.{World, opened}
 
 -- ---- stores that were asked one after the other
 
@@ -312,10 +313,12 @@ given-honest g _ _ _ h known clean = absurd h
 module _ {S A : Type 0} (g : Ghosts S A) (old : GroupView) (w : World) (size : Limits)
     (stores : List S) (stopped : HasStopped g old w size stores) where
   kept : IsKept w
-  kept = sound-kept old w stopped.sound stopped.shows
+  kept =
+      stored-kept stopped.shown w stopped.stands
+      (sound-kept old stopped.shown stopped.sound stopped.shows)
 
   same-size : old.size ≡ w.size
-  same-size = stopped.shows.size
+  same-size = stopped.shows.size ∙ sym stopped.stands.size
 
   more : w.size.n ≤ size.n
   more = let same = ap (λ (l : Limits). l.n) same-size in omega (arith, same, stopped.nodes)
@@ -324,7 +327,8 @@ module _ {S A : Type 0} (g : Ghosts S A) (old : GroupView) (w : World) (size : L
   left : length stores ≡ size.n → (images : List (List Entry)) → AreChosen g stores images
       → (p : ℕ) → MayLeave (w.node p) (image_of images p)
   left count images =
-      chosen-left g old w stores images stopped.shows stopped.holds
+      chosen-left g old w stores images
+      (outside-stored old stopped.shown w stopped.shows stopped.counted stopped.stands) stopped.holds
       (omega (arith, count, stopped.counted, stopped.nodes))
 
   chosen : (images : List (List Entry)) (asked : List S) → AllGive g stores images asked
@@ -432,8 +436,10 @@ module _ {S A : Type 0} (g : Ghosts S A) (old : GroupView) (w : World) (size : L
           sound = stopped.sound;
           counted = stopped.counted;
           nodes = stopped.nodes;
-          shows =
-              stopped.shows;
+          shown =
+              stopped.shown;
+          shows = stopped.shows;
+          stands = stopped.stands;
           holds = stay-held g w stores e.0.items stay stopped.holds;
         },
         λ may. ⊎_elim (λ honest. ⊎_elim (λ k. refused-so e.0.items e.1 k honest)

@@ -5,11 +5,11 @@ use Rattle.std.proofs.Common.{ℕ, ⊎_elim, ◌&&◌, ◌*◌, ◌+◌, ◌++�
 use Rattle.std.proofs.lemmas.Bool.{and_parts, false≢true, not-true, or_left, or_right}
 use Rattle.std.proofs.lemmas.List.{length-append}
 use Rattle.urb_group.proofs.shown.AgreeingWorlds.{sound-kept}
-use Rattle.urb_group.proofs.recovery.PendingNames.{in-without, length-names}
-use Rattle.urb_group.proofs.recovery.NodeLists.{in-numbers}
-use Rattle.urb_group.proofs.ticks.Membership.{IsIn, in-flat_map, in-map, in-split}
+use Rattle.urb_world.proofs.recovery.PendingNames.{in-without, length-names}
+use Rattle.urb_world.proofs.recovery.NodeLists.{in-numbers}
+use Rattle.urb_world.proofs.ticks.Membership.{IsIn, in-flat_map, in-map, in-split}
 use Rattle.urb_group.specs.GroupViews.{GroupView, IsSound, Shows}
-use Rattle.urb_group.specs.World.{World, stored}
+use Rattle.urb_world.specs.World.{World, stored}
 use Rattle.urb_names.proofs.FoundPairs.{no_pair, none_found}
 use Rattle.urb_names.proofs.OrderedPairs.{has_pair-behind, has_pair-head}
 use Rattle.urb_names.proofs.SameNames.{same_name-same}

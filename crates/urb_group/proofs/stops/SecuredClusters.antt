@@ -18,7 +18,7 @@ use Rattle.urb_group.proofs.stops.NodeStoreInvariant.{Beside, HoldsIn, Lasts, ap
 use Rattle.urb_group.proofs.stops.NodeStoreInvariant.{holds-in, set-cases, store-before}
 use Rattle.urb_group.proofs.calls.DraftsInCalls.{node-bounds}
 use Rattle.urb_group.proofs.stops.StockedClusters.{left-by-draft, lost, rose, took, unread}
-use Rattle.urb_group.proofs.stops.StockedNodes.{Rises}
+use Rattle.urb_world.proofs.stops.StockedNodes.{Rises}
 use Rattle.urb_group.proofs.stops.StockedSteps.{Stays, leaves-stay, store-stays}
 use Rattle.urb_group.proofs.stops.StoppedCalls.{leaves-draft}
 use Rattle.urb_group.specs.StoreQuestions.{Gives}
@@ -27,7 +27,7 @@ use Rattle.urb_group.specs.ClusterCalls.{Applies, AsksStore, RestartsBy, StoreMo
 use Rattle.urb_group.specs.ClusterCalls.{StoresHeld, is_fallen}
 use Rattle.urb_group.specs.GroupViews.{view_of}
 use Rattle.urb_group.specs.StoreContents.{IsKnown, IsLasting, IsSecured, IsStoreOf, LeavesOf, WouldLeave}
-use Rattle.urb_group.specs.ProcessStops.{MayLeave}
+use Rattle.urb_world.specs.ProcessStops.{MayLeave}
 use Rattle.urb_group.specs.declared.command.Command.{Command}
 use Rattle.urb_group.specs.declared.command.Command.TheVariants as command
 

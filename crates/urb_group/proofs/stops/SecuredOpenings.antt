@@ -20,7 +20,7 @@ use Rattle.urb_group.specs.GroupStores.{Clustered}
 use Rattle.urb_group.specs.ClusterCalls.{Starts}
 use Rattle.urb_group.specs.StoreOpenings.{OpensStores}
 use Rattle.urb_group.specs.StoreContents.{IsGenuine, IsKnown, IsSecured}
-use Rattle.urb_group.specs.World.{image_of, opened, started}
+use Rattle.urb_world.specs.World.{image_of, opened, started}
 
 -- a new cluster over blank stores is secured, if each store is honest while its storage is clean
 pub starts-secured : {S A T : Type 0} (g : Ghosts S A) (size : Limits) (stores : List S)

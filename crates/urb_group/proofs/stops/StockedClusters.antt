@@ -13,13 +13,13 @@ use Rattle.urb_stable.specs.StableStorage.{IsContents, IsPlaced, is_out_of_place
 use Rattle.urb_stable.specs.declared.stable.Stable.{Ghosts}
 use Rattle.urb_stable.specs.declared.stable.StoreFault.{StoreFault}
 use Rattle.urb_group.proofs.stops.NodeStoreInvariant.{Beside, Lasts, applies-beside}
-use Rattle.urb_group.proofs.stops.StockedNodes.{Rises}
+use Rattle.urb_world.proofs.stops.StockedNodes.{Rises}
 use Rattle.urb_group.proofs.stops.StockedSteps.{store-stays}
 use Rattle.urb_group.specs.StoreQuestions.{Gives}
 use Rattle.urb_group.specs.GroupStores.{Clustered}
 use Rattle.urb_group.specs.ClusterCalls.{Applies}
 use Rattle.urb_group.specs.StoreContents.{HoldsOf, IsStocked, IsStoreOf, LeavesOf}
-use Rattle.urb_group.specs.ProcessStops.{MayLeave}
+use Rattle.urb_world.specs.ProcessStops.{MayLeave}
 use Rattle.urb_group.specs.declared.command.Command.{Command}
 
 -- a stocked cluster, stated with a world that its group shows

@@ -6,8 +6,8 @@ use Rattle.urb_group.proofs.stops.StockedClusters.{beside-stocked, fallen, stock
 use Rattle.urb_group.proofs.stops.StockedClusters.{stocked-beside}
 use Rattle.urb_group.specs.GroupStores.{Clustered, held_draft}
 use Rattle.urb_group.specs.ClusterCalls.{Breaks, BreaksArmed, FailsDraft, FailsHeld}
-use Rattle.urb_group.specs.MemoryStores.{in_memory}
-use Rattle.urb_group.specs.Step.{Fail}
+use Rattle.urb_world.specs.MemoryStores.{in_memory}
+use Rattle.urb_world.specs.Step.{Fail}
 use Rattle.urb_group.specs.StoreContents.{IsStocked, IsStoreOf}
 use Rattle.urb_node.specs.Part.{Down, Node}
 use Rattle.urb_node.specs.Replies.{Reply}

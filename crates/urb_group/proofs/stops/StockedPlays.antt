@@ -1,16 +1,18 @@
 -- The stores of a new cluster, after a failure on request, and after commands that were played.
 use Rattle.std.proofs.Common.{Err, List, None, Ok, Option, Result, Some, [], ap, arith, length}
-use Rattle.std.proofs.Common.{refl, subst, suc, sym, zero, ℕ, ◌<◌, ◌∙◌, ◌∷◌, ◌≡◌, ◌≤◌, ⊎_elim, IfOk}
+use Rattle.std.proofs.Common.{lt-ltb, nat_lt, true, ◌<◌}
+use Rattle.std.proofs.Common.{refl, subst, suc, sym, zero, ℕ, ◌∙◌, ◌∷◌, ◌≡◌, ◌≤◌, ⊎_elim, IfOk}
 use Rattle.std.specs.Prelude.{slice_get}
 use Rattle.std.specs.List.{All, AllByRecursion}
 use Rattle.std.specs.Prelude.{Vec}
-use Rattle.std.proofs.lemmas.Bool.{cases_lt}
+use Rattle.std.proofs.lemmas.Bool.{and_from, cases_lt}
 use Rattle.std.proofs.lemmas.List.{get_or_past}
 use Rattle.std.proofs.lemmas.Option.{get_or_from_slice_get}
 use Rattle.urb_names.proofs.Places.{get_some}
 use Rattle.urb_node.specs.NodeViews.{no_view, NodeView}
 use Rattle.std.proofs.lemmas.List.Elements.{recursion_from_All}
 use Rattle.urb_names.specs.LabelsAndContents.{Limits}
+use Rattle.urb_names.specs.Nodes.{is_node}
 use Rattle.urb_names.specs.declared.refusal.NoMemory.{NoMemory}
 use Rattle.urb_names.specs.declared.refusal.Refusal.TheVariants as refusal
 use Rattle.urb_node.specs.Part.{State}
@@ -26,12 +28,13 @@ use Rattle.urb_group.specs.Commands.{reply_of}
 use Rattle.urb_group.specs.PlayedCommands.{Follows, Plays}
 use Rattle.urb_group.specs.GroupViews.{GroupView, IsSound, Shows, view_of}
 use Rattle.urb_group.specs.StoreContents.{AllHold, AreChosen, ContentsFit, IsStocked, IsStoreOf}
-use Rattle.urb_group.specs.ProcessStops.{GoesOnIn, MayLeave}
-use Rattle.urb_group.specs.World.{World, image_of, started}
+use Rattle.urb_world.specs.ProcessStops.{GoesOnIn, MayLeave}
+use Rattle.urb_world.specs.World.{World, image_of, started}
 use Rattle.urb_group.specs.declared.command.Command.{Command}
 use Rattle.urb_group.specs.declared.reply.Reply.{Reply}
 use Rattle.urb_group.proofs.shown.AgreeingWorlds.{sound-kept}
-use Rattle.urb_group.proofs.stops.StoppedWorlds.{survives}
+use Rattle.urb_group.proofs.calls.DraftsInCalls.{node-bounds}
+use Rattle.urb_world.proofs.stops.StoppedWorlds.{survives}
 
 -- ---- a new cluster
 
@@ -124,13 +127,30 @@ no-place group w p shows none = at ((w.node p).records) refl
         ap (λ (v : NodeView). v.count) (sym none) ∙ ((shows.nodes p).count ∙ ap length e) in
         absurd (omega (arith, count)))
 
--- a choice for each store is a choice for each node
+-- a node that the group doesn't have has stored nothing
+pub outside-left : (group : GroupView) (w : World) → Shows group w → (p : ℕ)
+    → (is_node (length group.nodes) p ≡ true → ⊥) → MayLeave (w.node p) []
+outside-left group w shows zero out = no-place group w 0 shows refl
+outside-left group w shows (suc i) out =
+    no-place group w (suc i) shows (get_or_past group.nodes i no_view
+    (⊎_elim (λ low. absurd (out (inside low))) (λ beyond. beyond)
+    (cases_lt i (length group.nodes))))
+  where
+    inside : i < length group.nodes → is_node (length group.nodes) (suc i) ≡ true
+    inside low =
+        and_from (nat_lt 0 (suc i)) (nat_lt (suc i) (suc (length group.nodes)))
+        (lt-ltb 0 (suc i) (omega arith))
+        (lt-ltb (suc i) (suc (length group.nodes)) (omega (arith, low)))
+
+-- a choice for each store is a choice for each node, if a node without a store may leave nothing
 pub chosen-left : {S A : Type 0} (g : Ghosts S A) (group : GroupView) (w : World) (stores : List S)
-    (images : List (List Entry)) → Shows group w → AllHold g w stores
-    → length group.nodes ≤ length stores → AreChosen g stores images
+    (images : List (List Entry))
+    → ((p : ℕ) → (is_node (length group.nodes) p ≡ true → ⊥) → MayLeave (w.node p) [])
+    → AllHold g w stores → length group.nodes ≤ length stores → AreChosen g stores images
     → (p : ℕ) → MayLeave (w.node p) (image_of images p)
-chosen-left g group w stores images shows hold places chosen zero = no-place group w 0 shows refl
-chosen-left g group w stores images shows hold places chosen (suc i) =
+chosen-left g group w stores images none hold places chosen zero =
+    none 0 (λ is. let low = (node-bounds (length group.nodes) 0 is).0 in omega (arith, low))
+chosen-left g group w stores images none hold places chosen (suc i) =
     ⊎_elim within past (cases_lt i (length images))
   where
     within : i < length images → MayLeave (w.node (suc i)) (image_of images (suc i))
@@ -148,7 +168,8 @@ chosen-left g group w stores images shows hold places chosen (suc i) =
         (let e = chosen.one_each in omega (arith, e, places, more)) in
         subst (λ (records : List Entry). MayLeave (w.node (suc i)) records)
         (sym (get_or_past images i [] more))
-        (no-place group w (suc i) shows (get_or_past group.nodes i no_view beyond))
+        (none (suc i) (λ is.
+        let high = (node-bounds (length group.nodes) (suc i) is).1 in omega (arith, high, beyond)))
 
 -- the group goes on from there
 pub held-fits : {S A : Type 0} (g : Ghosts S A) (group : GroupView) (w : World) (stores : List S)
@@ -156,7 +177,8 @@ pub held-fits : {S A : Type 0} (g : Ghosts S A) (group : GroupView) (w : World) 
     → (images : List (List Entry)) → AreChosen g stores images → GoesOnIn w (image_of images)
 held-fits g group w stores sound shows hold places images chosen =
     survives w (sound-kept group w sound shows) (image_of images)
-    (chosen-left g group w stores images shows hold (omega (arith, places)) chosen)
+    (chosen-left g group w stores images (outside-left group w shows) hold (omega (arith, places))
+    chosen)
 
 -- whatever the honest stores of a stocked cluster may hold fits together, and opens a group that
 -- goes on

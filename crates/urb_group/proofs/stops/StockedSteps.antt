@@ -2,13 +2,13 @@
 -- a held record.
 use Rattle.std.proofs.Common.{List, None, Option, Some, ap, false, inl, inr, refl, subst, sym, ℕ}
 use Rattle.std.proofs.Common.{◌∙◌, ◌≡◌, ◌⊎◌, ⊎_elim}
-use Rattle.urb_group.proofs.steps.ArrivalCases.{arrive-cases}
-use Rattle.urb_group.proofs.steps.StepCases.{OutcomeCases, node_of, outcome-cases, step-nodes}
-use Rattle.urb_group.specs.DeliveredMessages.{event_node}
-use Rattle.urb_group.specs.Step.{Commit, Event, Restart, step}
+use Rattle.urb_world.proofs.steps.ArrivalCases.{arrive-cases}
+use Rattle.urb_world.proofs.steps.StepCases.{OutcomeCases, node_of, outcome-cases, step-nodes}
+use Rattle.urb_world.specs.EventEffects.{event_node}
+use Rattle.urb_world.specs.Step.{Commit, Event, Restart, step}
 use Rattle.urb_group.specs.StoreContents.{IsStoreOf, LeavesOf}
-use Rattle.urb_group.specs.ProcessStops.{MayLeave}
-use Rattle.urb_group.specs.World.{World}
+use Rattle.urb_world.specs.ProcessStops.{MayLeave}
+use Rattle.urb_world.specs.World.{World}
 use Rattle.urb_node.specs.Part.{Node, Ready}
 use Rattle.urb_node.specs.Replies.{Reply}
 use Rattle.urb_node.specs.Steps.{doubt, is_down}

@@ -22,7 +22,7 @@ use Rattle.urb_group.proofs.stops.StockedFailures.{breaks-leaves, Leaves}
 use Rattle.urb_group.specs.GroupStores.{Clustered, held_draft}
 use Rattle.urb_group.specs.ClusterCalls.{Applies, AsksStore, BreaksArmed, FailsHeld}
 use Rattle.urb_group.specs.ClusterCalls.{RestartsBy, StoreMoves, StoresDraft, StoresHeld, is_fallen}
-use Rattle.urb_group.specs.MemoryStores.{in_memory}
+use Rattle.urb_world.specs.MemoryStores.{in_memory}
 use Rattle.urb_group.specs.GroupViews.{view_of}
 use Rattle.urb_group.specs.StoreContents.{IsStocked, IsStoreOf, LeavesOf, StopLeaves}
 use Rattle.urb_group.specs.declared.command.Command.{Command}

@@ -17,9 +17,10 @@ use Rattle.urb_group.proofs.shown.ShownWorlds.{is-node, no-node}
 use Rattle.urb_group.proofs.tails.TailRecords.{from-here}
 use Rattle.urb_group.specs.GroupViews.{GroupView, Shows}
 use Rattle.urb_group.specs.PlaceViews.{shown}
-use Rattle.urb_group.specs.RunInvariant.{MayJoin}
-use Rattle.urb_group.specs.StoresAhead.{MayFollow, TellsTail}
-use Rattle.urb_group.specs.World.{World, stored, updated}
+use Rattle.urb_world.specs.RunInvariant.{MayJoin}
+use Rattle.urb_world.specs.StoresAhead.{MayFollow}
+use Rattle.urb_group.specs.TailQuestions.{TellsTail}
+use Rattle.urb_world.specs.World.{World, stored, updated}
 use Rattle.urb_group.specs.declared.node_moves.Node.{Node as Place}
 use Rattle.urb_group.specs.internal.TailChecks.{Joins, may_follow, may_join}
 

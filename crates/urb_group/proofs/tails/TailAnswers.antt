@@ -22,7 +22,7 @@ use Rattle.urb_group.proofs.tails.TailRecords.{client-append, found-behind, name
 use Rattle.urb_group.proofs.tails.TailRecords.{own-behind}
 use Rattle.urb_group.specs.GroupViews.{Shows}
 use Rattle.urb_group.specs.PlaceViews.{memory_in, shown}
-use Rattle.urb_group.specs.World.{World, stored, updated}
+use Rattle.urb_world.specs.World.{World, stored, updated}
 use Rattle.urb_group.specs.declared.node_moves.Node.{Node as Place}
 use Rattle.urb_group.specs.internal.PlaceInvariant.{IsGroup, ShowsAt}
 use Rattle.urb_group.specs.internal.TailChecks.{CountsClient, FindsBehind, IsNamedBehind}

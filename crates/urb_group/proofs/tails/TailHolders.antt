@@ -21,7 +21,7 @@ use Rattle.urb_group.proofs.shown.NodeAnswers.{was_read}
 use Rattle.urb_group.proofs.shown.NodeMoves.{place_shows}
 use Rattle.urb_group.specs.GroupViews.{Shows}
 use Rattle.urb_group.specs.PlaceViews.{memory_in, shown, view_at}
-use Rattle.urb_group.specs.World.{World, stored, updated}
+use Rattle.urb_world.specs.World.{World, stored, updated}
 use Rattle.urb_group.specs.declared.node_moves.Node.{Node as Place}
 use Rattle.urb_group.specs.internal.PlaceInvariant.{IsGroup, ShowsAt}
 use Rattle.urb_group.specs.internal.TailChecks.{SenderHolds, WouldHold, would_hold}

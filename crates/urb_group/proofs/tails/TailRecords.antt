@@ -5,7 +5,7 @@ use Rattle.std.proofs.Common.{sym, true, ℕ}
 use Rattle.std.proofs.Common.{◌++◌, ◌+◌, ◌<◌, ◌==◌, ◌||◌, ◌∙◌, ◌∷◌, ◌≡◌, ◌≤◌}
 use Rattle.std.proofs.lemmas.List.{drop_all}
 use Rattle.std.proofs.lemmas.List.Folds.{list_any-append}
-use Rattle.std.proofs.lemmas.List.Sums.{sum_by-append, sum_by-cons}
+use Rattle.std.proofs.lemmas.List.Sums.{sum_by-append}
 use Rattle.std.specs.Option.{option_or}
 use Rattle.urb_names.proofs.FoundPairs.{message_of-behind, message_of-more, own-append}
 use Rattle.urb_names.specs.LabelsAndContents.{Content, Label}
@@ -149,11 +149,6 @@ own-from p rs i r l e =
     ∙ own-behind p (r ∷ []) (drop (i + 1) rs)
 
 -- ---- counts
-
--- a count over a first message and others
-pub client-first : (client : ℕ) (m : Content) (ms : List Content)
-    → of_client client (m ∷ ms) ≡ cond (m.client == client) 1 0 + of_client client ms
-client-first client m ms = sum_by-cons (λ (o : Content). cond (o.client == client) 1 0) m ms
 
 -- a count over two lists
 pub client-append : (client : ℕ) (ms os : List Content)

@@ -10,7 +10,7 @@ use Rattle.urb_group.specs.GroupCalls.{IsRefused}
 use Rattle.urb_group.specs.GroupStores.{held_draft}
 use Rattle.urb_group.specs.ClusterCalls.{is_fallen}
 use Rattle.urb_group.specs.GroupViews.{GroupView}
-use Rattle.urb_group.specs.Step.{Fail, Restart}
+use Rattle.urb_world.specs.Step.{Fail, Restart}
 use Rattle.urb_group.specs.declared.state.State.{State}
 use Rattle.urb_group.specs.declared.state.State.TheVariants as state
 use Rattle.urb_group.specs.declared.taken.Taken.{Taken}

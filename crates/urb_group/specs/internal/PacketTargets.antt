@@ -7,7 +7,7 @@ use Rattle.urb_names.specs.Pairs.{has_pair}
 use Rattle.urb_node.specs.Part.{Node}
 use Rattle.urb_stable.specs.Records.{cert, pend}
 use Rattle.urb_group.specs.internal.PlaceInvariant.{ShowsAt}
-use Rattle.urb_group.specs.World.{bears_out}
+use Rattle.urb_world.specs.World.{bears_out}
 use Rattle.urb_group.specs.declared.node_moves.Node.{Node as Place}
 
 -- whether the packet is for node p of n nodes, and names only nodes of these

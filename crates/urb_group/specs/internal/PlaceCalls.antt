@@ -24,8 +24,8 @@ use Rattle.urb_group.specs.declared.taken.Taken.{Taken}
 use Rattle.urb_group.specs.declared.taken.Taken.TheVariants as taken
 
 -- the result of a call that took an event: its reply, or a refusal
-abbrev pub Told : Type 0
-Told = Result Reply Refusal
+abbrev pub CallResult : Type 0
+CallResult = Result Reply Refusal
 
 -- the node moved, by its outcome and with its reply
 pub record Moves {A : Type 0} (outcome : Reply × Node) (reply : Reply)
@@ -35,7 +35,7 @@ pub record Moves {A : Type 0} (outcome : Reply × Node) (reply : Reply)
   pub same : IsSameNode (memory_in old) (memory_in new)
 
 -- The node moved by its outcome; or it is refused as the outcome is, and stays as it was.
-abbrev pub Leads : {A : Type 0} → Reply × Node → Place A → Told → Place A → Type 0
+abbrev pub Leads : {A : Type 0} → Reply × Node → Place A → CallResult → Place A → Type 0
 Leads outcome old (Ok reply) new = Moves outcome reply old new
 Leads outcome old (Err r) new = IsRefusedAs outcome.0 r × (new ≡ old)
 
@@ -44,7 +44,7 @@ abbrev pub Outcomes : Type 0
 Outcomes = Limits → ℕ → Node → Reply × Node
 
 -- this is so for every node that the place shows
-abbrev pub LeadsAt : {A : Type 0} → Outcomes → Place A → Told → Place A → Type 0
+abbrev pub LeadsAt : {A : Type 0} → Outcomes → Place A → CallResult → Place A → Type 0
 LeadsAt outcome old told new =
     (node : Node) → ShowsAt old node
     → Leads (outcome (memory_in old).limits (memory_in old).node node) old told new
@@ -62,28 +62,28 @@ pub record MovesNode {N T : Type 0} (IsStep : N → N × T → Type 0) (i : ℕ)
 -- ---- the result of each call
 
 -- the result of a submit or an arrival
-abbrev pub told_taken : {A : Type 0} → Result (Taken A) Refusal → Told
+abbrev pub told_taken : {A : Type 0} → Result (Taken A) Refusal → CallResult
 told_taken (Ok (taken.Same answer)) = Ok (Same answer)
 told_taken (Ok (taken.Store draft)) = Ok (Drafted (name_of draft.entry) draft.pos)
 told_taken (Err r) = Err r
 
 -- the result of a receipt
-abbrev pub told_stored : Result Done (Placed × Refusal) → Told
+abbrev pub told_stored : Result Done (Placed × Refusal) → CallResult
 told_stored (Ok done) = Ok (Stored done)
 told_stored (Err e) = Err e.1
 
 -- the result of a failed store or a crash
-abbrev pub told_down : ℕ → Result (Unit {0}) Refusal → Told
+abbrev pub told_down : ℕ → Result (Unit {0}) Refusal → CallResult
 told_down p (Ok done) = Ok (WentDown p)
 told_down p (Err r) = Err r
 
 -- the result of a restart
-abbrev pub told_up : ℕ → Result (Unit {0}) Refusal → Told
+abbrev pub told_up : ℕ → Result (Unit {0}) Refusal → CallResult
 told_up p (Ok done) = Ok (Up p)
 told_up p (Err r) = Err r
 
 -- the result of a tick
-abbrev pub told_sent : Result (List Carried) Refusal → Told
+abbrev pub told_sent : Result (List Carried) Refusal → CallResult
 told_sent (Ok packets) = Ok (Sent packets)
 told_sent (Err r) = Err r
 

@@ -1,5 +1,5 @@
--- What the checks of one record of a tail say. `before` are the records of the tail before it, so
--- it would stand behind the stored records of its node and these.
+-- What the checks of one record of a tail say. `before` are the tail's records before it. They and
+-- the node's stored records would come before this record.
 use Rattle.std.specs.Prelude.{Bool, List, Option, [], count_by, if◌then◌else◌, suc, true, ℕ}
 use Rattle.std.specs.Prelude.{◌&&◌, ◌++◌, ◌==◌, ◌||◌, ◌∷◌, ◌≡◌}
 use Rattle.urb_names.specs.LabelsAndContents.{Content, Label, Limits}
@@ -12,7 +12,7 @@ use Rattle.urb_stable.specs.Records.{cert, pend}
 use Rattle.urb_node.specs.Part.{Node}
 use Rattle.urb_group.specs.GroupViews.{Shows}
 use Rattle.urb_group.specs.PlaceViews.{shown}
-use Rattle.urb_group.specs.World.{World, stored, updated}
+use Rattle.urb_world.specs.World.{World, stored, updated}
 use Rattle.urb_group.specs.declared.node_moves.Node.{Node as Place}
 use Rattle.urb_group.specs.internal.PlaceInvariant.{ShowsAt}
 

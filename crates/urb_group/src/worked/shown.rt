@@ -8,9 +8,9 @@ ghost use Rattle.urb_node.specs.NodeViews.{ShowsNode, no_view};
 ghost use Rattle.urb_node.specs.Part.{Down, opened_node};
 ghost use Rattle.urb_stable.specs.declared.record.Record.TheVariants.{Pend};
 ghost use Rattle.urb_group.specs.GroupViews.{Shows};
-ghost use Rattle.urb_group.specs.World.{image_of, opened, started};
-ghost use Rattle.urb_group.specs.internal.Examples.{filled, limits, pending, seen_node, seen_view};
-ghost use Rattle.urb_group.specs.internal.Scripts.{message};
+ghost use Rattle.urb_world.specs.World.{image_of, opened, started};
+ghost use Rattle.urb_world.specs.internal.Examples.{filled, limits, pending, seen_node, seen_view};
+ghost use Rattle.urb_world.specs.internal.Scripts.{message};
 
 /// The memory of a node shows the node. It may forget who acknowledged a certified name. A new
 /// group of any size shows a new world.

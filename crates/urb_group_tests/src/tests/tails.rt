@@ -5,7 +5,7 @@ use std::alloc::Global;
 use std::test::Fail;
 use urb_group::*;
 
-/// A record: of which sender, with which number. Its message is the client's with the same number.
+/// A record's kind, sender and number. Its message is the client's with the same number.
 #[derive(Clone, Copy)]
 enum Form {
     Pend(u8, u32),

@@ -1,11 +1,13 @@
 -- The outcome of a call at a ready node, and the step that follows from it.
-use Rattle.std.specs.Prelude.{◌≡◌, suc, Result, Ok, Err}
+use Rattle.std.specs.Prelude.{◌≡◌, suc, List, Result, Ok, Err}
+use Rattle.std.specs.declared.ops.ControlFlow.{ControlFlow}
+use Rattle.std.specs.declared.ops.ControlFlow.TheVariants.{Break, Continue}
+use Rattle.urb_names.specs.CarriedPackets.{Carried}
 use Rattle.urb_names.specs.declared.refusal.Refusal.{Refusal}
 use Rattle.urb_names.specs.declared.refusal.Refusal.TheVariants as refusal
+use Rattle.urb_node.specs.declared.answer.Answer.{Answer}
 use Rattle.urb_node.specs.declared.answer.Answer.TheVariants as answer
 use Rattle.urb_node.specs.declared.call_outcomes.Wanted.{Wanted}
-use Rattle.urb_node.specs.declared.call_outcomes.Found.{Found}
-use Rattle.urb_node.specs.declared.call_outcomes.Found.TheVariants as found
 use Rattle.urb_node.specs.declared.held.Held.{Held}
 use Rattle.urb_node.specs.declared.step.Step.{Step}
 use Rattle.urb_node.specs.declared.step.Step.TheVariants as step
@@ -16,11 +18,6 @@ use Rattle.urb_node.specs.NodeMemories.{Memory}
 -- the record that is wanted can be held as a draft, and its copy is the same record
 abbrev pub IsWanted : {A : Type 0} → Held A → Wanted A → Type 0
 IsWanted held w = IsDrafted held w.entry w.cause w.packets × (w.copy ≡ w.entry)
-
--- the outcome of a request: nothing that needs a store, or a record that can be held
-abbrev pub IsFoundIn : {A : Type 0} → Held A → Found A → Type 0
-IsFoundIn held (found.Known told) = Unit {0}
-IsFoundIn held (found.New w) = IsWanted held w
 
 -- an outcome that allocates memory: a record to store, an acknowledgement counted, or a packet in
 -- answer
@@ -37,16 +34,18 @@ abbrev pub IsRefusalOf : Outcome → Refusal → Type 0
 IsRefusalOf outcome refusal.NoMemory = TakesMemory outcome
 IsRefusalOf outcome r = outcome ≡ Refuses r
 
--- from the old memory to the new one, the call had this outcome; a refusal leaves the memory
--- unchanged
-abbrev pub Finds : {A : Type 0} → Memory → Outcome → Result (Found A) Refusal → Memory → Type 0
-Finds old outcome (Ok (found.Known told)) new = outcome ≡ Answers told new
-Finds old outcome (Ok (found.New w)) new = outcome ≡ Wants w.entry w.cause new
+-- From the old memory to the new one, the call had this outcome. It breaks off with an answer, or
+-- continues with a record to store. A refusal leaves the memory unchanged.
+abbrev pub Finds : {A : Type 0} → Memory → Outcome
+    → Result (ControlFlow (Answer (List Carried)) (Wanted A)) Refusal → Memory → Type 0
+Finds old outcome (Ok (Break told)) new = outcome ≡ Answers told new
+Finds old outcome (Ok (Continue w)) new = outcome ≡ Wants w.entry w.cause new
 Finds old outcome (Err r) new = IsRefusalOf outcome r × (new ≡ old)
 
 -- the step that follows
-abbrev pub step_from : {A : Type 0} → Memory → Found A → Step A
-step_from a (found.Known told) = step.Same a told
-step_from a (found.New w) =
+abbrev pub step_from : {A : Type 0} → Memory → ControlFlow (Answer (List Carried)) (Wanted A)
+    → Step A
+step_from a (Break told) = step.Same a told
+step_from a (Continue w) =
     step.Store (record { memory = a; entry = w.entry; cause = w.cause })
     (record { node = a.node; pos = suc a.count; entry = w.copy })

@@ -2,13 +2,14 @@
 
 ghost use Rattle.std.specs.Prelude.{◌≡◌, length, option_map};
 ghost use Rattle.urb_names.specs.Names.{has_name};
-ghost use Rattle.urb_names.specs.Pairs.{has_pair, message_of, own};
+ghost use Rattle.urb_names.specs.Pairs.{has_pair, message_of, next_number, own};
 ghost use Rattle.urb_node.specs.CallEffects.{CountsOwn, FindsMessage, Holds, IsCertified, TellsLog};
+ghost use Rattle.urb_node.specs.CallEffects.{TellsNext};
 ghost use Rattle.urb_node.specs.NodeMemories.{ShowsDown};
 
 use crate::Down;
 use std::alloc::Allocator;
-use urb_names::{Message, Name};
+use urb_names::{ClientId, Message, Name};
 
 impl<A: Allocator + Copy> Down<A> {
     #[tactic(auto, using(crate::proofs::QueryAnswers::holds_says))]
@@ -54,5 +55,15 @@ impl<A: Allocator + Copy> Down<A> {
         ensures stored { CountsOwn (ShowsDown self.now) result }
     {
         self.held.own_len()
+    }
+
+    /// The number that a client must give its next message at this node, from 1. Stored messages
+    /// count; the doubtful record doesn't.
+    pub fn client_next(&self, client: ClientId) -> u32
+        ensures memory { result
+            ≡ next_number client (own self.now.memory.node self.now.memory.pairs) }
+        ensures stored { TellsNext (ShowsDown self.now) client result }
+    {
+        self.held.client_next(client)
     }
 }

@@ -2,13 +2,14 @@
 
 ghost use Rattle.std.specs.Prelude.{◌≡◌, length, option_map};
 ghost use Rattle.urb_names.specs.Names.{has_name};
-ghost use Rattle.urb_names.specs.Pairs.{has_pair, message_of, own};
+ghost use Rattle.urb_names.specs.Pairs.{has_pair, message_of, next_number, own};
 ghost use Rattle.urb_node.specs.CallEffects.{CountsOwn, FindsMessage, Holds, IsCertified, TellsLog};
+ghost use Rattle.urb_node.specs.CallEffects.{TellsNext};
 ghost use Rattle.urb_node.specs.NodeMemories.{ShowsReady};
 
 use crate::Ready;
 use std::alloc::Allocator;
-use urb_names::{Config, Message, Name, NodeId};
+use urb_names::{ClientId, Config, Message, Name, NodeId};
 
 impl<A: Allocator + Copy> Ready<A> {
     /// The node and the limits of its group, as it was created or opened.
@@ -61,5 +62,14 @@ impl<A: Allocator + Copy> Ready<A> {
         ensures stored { CountsOwn (ShowsReady self.now) result }
     {
         self.held.own_len()
+    }
+
+    /// The number that a client must give its next message at this node, from 1. The messages that
+    /// the node has broadcast count.
+    pub fn client_next(&self, client: ClientId) -> u32
+        ensures memory { result ≡ next_number client (own self.now.node self.now.pairs) }
+        ensures stored { TellsNext (ShowsReady self.now) client result }
+    {
+        self.held.client_next(client)
     }
 }

@@ -156,6 +156,10 @@ fn play_told<A: Allocator + Copy>(
                 && tells_of(&state, calm, named, payload, *known);
             (state, went(is_so))
         }
+        Act::Next(client, number) => {
+            let is_so = state.client_next(*client) == Some(*number);
+            (state, went(is_so))
+        }
         _ => (state, None),
     }
 }
@@ -172,7 +176,9 @@ fn play_act<A: Allocator + Copy>(
         Act::Submit(_, _) | Act::Arrive(_, _) | Act::Tell(_, _, _) => {
             keep_draft(call(state, memory, row, named), store, named, row)
         }
-        Act::Tick(_) | Act::Send(_) | Act::Show(_, _, _) => play_told(state, memory, row, named),
+        Act::Tick(_) | Act::Send(_) | Act::Show(_, _, _) | Act::Next(_, _) => {
+            play_told(state, memory, row, named)
+        }
         Act::Crash | Act::Rise | Act::Refuse(_) => play_fall(state, store, memory, &row.0),
         _ => play_draft(state, store, memory.1, row, named),
     }

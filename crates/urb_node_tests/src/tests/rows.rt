@@ -102,6 +102,8 @@ pub(super) enum Act {
     /// How many messages it has broadcast, the names that it has delivered, and what it knows about
     /// the row's message.
     Show(u32, &'static [(u8, u32)], Known),
+    /// The number that this client must use next.
+    Next(u16, u32),
 }
 
 /// The action, the name of the message, and its payload. In a packet a message has the number of

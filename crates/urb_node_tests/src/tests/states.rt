@@ -1,7 +1,7 @@
 //! A node under test, in any of its states, and queries about it.
 
 use std::alloc::Allocator;
-use urb_names::{Message, Name};
+use urb_names::{ClientId, Message, Name};
 use urb_node::{Down, Ready, Storing};
 use urb_stable::Draft;
 
@@ -29,6 +29,16 @@ impl<A: Allocator + Copy> State<A> {
             State::Storing(storing, _) => storing.own_len(),
             State::Down(down) => down.own_len(),
         }
+    }
+
+    /// The number that this client must use next; `None` if there is no such client.
+    pub(super) fn client_next(&self, client: u16) -> Option<u32> {
+        let client = ClientId::new(client)?;
+        Some(match self {
+            State::Ready(ready) => ready.client_next(client),
+            State::Storing(storing, _) => storing.client_next(client),
+            State::Down(down) => down.client_next(client),
+        })
     }
 
     pub(super) fn log(&self) -> &[Name] {

@@ -2,7 +2,7 @@
 use Rattle.std.specs.Prelude.{ℕ, List, Option, Some, None}
 use Rattle.urb_names.specs.LabelsAndContents.{Limits}
 use Rattle.urb_script.specs.Commands.{Command, Group, Spells}
-use Rattle.urb_group.specs.Scenes.{Scene}
+use Rattle.urb_world.specs.Scenes.{Scene}
 use Rattle.urb_script.specs.Steps.{Takes, MayCome}
 
 -- The answer to a line, from the state so far. There is no state after it if the line is no command

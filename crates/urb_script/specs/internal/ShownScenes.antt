@@ -8,12 +8,12 @@ use Rattle.urb_stable.specs.MemoryStores.{Memory, with_doubt}
 use Rattle.urb_stable.specs.StableStorage.{IsContents}
 use Rattle.urb_node.specs.Part.{Node}
 use Rattle.urb_node.specs.Steps.{doubt, is_down}
-use Rattle.urb_group.specs.Scenes.{Scene}
+use Rattle.urb_world.specs.Scenes.{Scene}
 use Rattle.urb_group.specs.GroupViews.{GroupView, Shows}
-use Rattle.urb_group.specs.World.{World}
+use Rattle.urb_world.specs.World.{World}
 use Rattle.urb_group.specs.GroupStores.{Clustered, held_draft}
 use Rattle.urb_group.specs.ClusterCalls.{FailsHeld, StoresHeld}
-use Rattle.urb_group.specs.MemoryStores.{in_memory}
+use Rattle.urb_world.specs.MemoryStores.{in_memory}
 use Rattle.urb_node.specs.Replies.{Reply}
 use Rattle.urb_script.specs.Commands.{Command, Fail, Stored}
 use Rattle.urb_script.specs.declared.mem_cluster.MemCluster.{MemCluster}

@@ -1,7 +1,7 @@
 -- Words for the worked examples: entries, and a group of one node.
 use Prim.Native.String.{String}
 use Rattle.std.specs.Prelude.{List, None, [], length, ℕ, ◌∷◌}
-use Rattle.urb_group.specs.internal.Scripts.{message}
+use Rattle.urb_world.specs.internal.Scripts.{message}
 use Rattle.urb_group.specs.GroupViews.{GroupView}
 use Rattle.urb_names.specs.Names.{name}
 use Rattle.urb_names.specs.LabelsAndContents.{Content, Label}

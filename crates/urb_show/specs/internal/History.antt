@@ -3,7 +3,7 @@
 use Rattle.std.specs.Prelude.{List, MatchBool, [], fold, length, true, ℕ, ◌++◌, ◌<◌, ◌==◌, ◌^◌, ◌∷◌}
 use Rattle.std.specs.Prelude.{◌≡◌, ◌≤◌, ◌⊎◌}
 use Rattle.logbook.specs.Pages.{Book, Cell, Named, Step, View}
-use Rattle.urb_group.specs.Step.{Event}
+use Rattle.urb_world.specs.Step.{Event}
 use Rattle.urb_show.specs.Lists.{Lists}
 use Rattle.urb_show.specs.declared.entry.Addition.{Addition}
 use Rattle.urb_show.specs.Additions.{lists_of}

@@ -1,7 +1,7 @@
 -- How the parts of a house belong together. This is for proofs.
 use Rattle.std.specs.Prelude.{List, length, map, ℕ, ◌+◌, ◌-◌, ◌<◌, ◌^◌, ◌≡◌}
 use Rattle.urb_group.specs.GroupViews.{GroupView, IsSound}
-use Rattle.urb_group.specs.Step.{Event}
+use Rattle.urb_world.specs.Step.{Event}
 use Rattle.urb_show.specs.Houses.{Grew, HouseView}
 use Rattle.urb_show.specs.Lists.{Begins, Lists, list_at, lists_in}
 use Rattle.urb_show.specs.Pasts.{IsLedTo}

@@ -1,10 +1,10 @@
 -- Words for the worked examples of readers: groups of four nodes, and what readers and houses know.
 use Rattle.std.specs.Prelude.{List, None, [], ◌∷◌}
 use Rattle.urb_group.specs.GroupViews.{GroupView}
-use Rattle.urb_group.specs.Step.{Event}
-use Rattle.urb_group.specs.World.{World, started}
-use Rattle.urb_group.specs.internal.Examples.{limits, node_in}
-use Rattle.urb_group.specs.internal.Scripts.{message}
+use Rattle.urb_world.specs.Step.{Event}
+use Rattle.urb_world.specs.World.{World, started}
+use Rattle.urb_world.specs.internal.Examples.{limits, node_in}
+use Rattle.urb_world.specs.internal.Scripts.{message}
 use Rattle.urb_names.specs.Names.{name}
 use Rattle.urb_node.specs.NodeViews.{no_view}
 use Rattle.urb_node.specs.Part.{Storing}

@@ -1,7 +1,7 @@
 -- Words for the worked examples of the service: nodes, and services of two nodes.
 use Rattle.std.specs.Prelude.{List, [], if◌then◌else◌, ◌==◌, ◌∷◌}
 use Rattle.urb_group.specs.declared.state.State.TheVariants as state
-use Rattle.urb_group.specs.internal.Scripts.{message}
+use Rattle.urb_world.specs.internal.Scripts.{message}
 use Rattle.urb_names.specs.LabelsAndContents.{Content, Label}
 use Rattle.urb_show.specs.Service.{Node, Service}
 

@@ -12,7 +12,7 @@ pub(crate) struct Happening {
 }
 
 impl Model for Happening {
-    ghost use Rattle.urb_group.specs.Step.{Event, Tick};
+    ghost use Rattle.urb_world.specs.Step.{Event, Tick};
 
     ghost Value = { Event };
 
@@ -21,7 +21,7 @@ impl Model for Happening {
 
 /// What a caller asks of a group: which event it is.
 pub(crate) trait Call {
-    ghost use Rattle.urb_group.specs.Step.{Event};
+    ghost use Rattle.urb_world.specs.Step.{Event};
 
     ghost event: { Self → Event };
 }
@@ -36,7 +36,7 @@ pub(crate) struct SubmitCall<'a> {
 }
 
 impl<'a> Call for SubmitCall<'a> {
-    ghost use Rattle.urb_group.specs.Step.{Submit};
+    ghost use Rattle.urb_world.specs.Step.{Submit};
 
     ghost event = { λ c. Submit c.node
         (record { client = c.client; number = c.number; payload = c.payload.now }) };
@@ -51,7 +51,7 @@ pub(crate) struct ArriveCall<'a> {
 
 impl<'a> Call for ArriveCall<'a> {
     ghost use Rattle.urb_names.specs.PacketGrammar.{packet_of};
-    ghost use Rattle.urb_group.specs.Step.{Arrive};
+    ghost use Rattle.urb_world.specs.Step.{Arrive};
 
     ghost event = { λ c. Arrive c.node (packet_of c.bytes.now) };
 }
@@ -63,7 +63,7 @@ pub(crate) struct CommitCall<'a> {
 }
 
 impl<'a> Call for CommitCall<'a> {
-    ghost use Rattle.urb_group.specs.Step.{Commit};
+    ghost use Rattle.urb_world.specs.Step.{Commit};
 
     ghost event = { λ c. Commit c.receipt.now.node c.receipt.now.pos c.receipt.now.entry };
 }
@@ -75,7 +75,7 @@ pub(crate) struct FailCall<'a> {
 }
 
 impl<'a> Call for FailCall<'a> {
-    ghost use Rattle.urb_group.specs.Step.{Fail};
+    ghost use Rattle.urb_world.specs.Step.{Fail};
 
     ghost event = { λ c. Fail c.doubt.now.node };
 }
@@ -87,7 +87,7 @@ pub(crate) struct TickCall {
 }
 
 impl Call for TickCall {
-    ghost use Rattle.urb_group.specs.Step.{Tick};
+    ghost use Rattle.urb_world.specs.Step.{Tick};
 
     ghost event = { λ c. Tick c.node };
 }
@@ -99,7 +99,7 @@ pub(crate) struct CrashCall {
 }
 
 impl Call for CrashCall {
-    ghost use Rattle.urb_group.specs.Step.{Crash};
+    ghost use Rattle.urb_world.specs.Step.{Crash};
 
     ghost event = { λ c. Crash c.node };
 }
@@ -112,7 +112,7 @@ pub(crate) struct RestartCall<'a> {
 }
 
 impl<'a> Call for RestartCall<'a> {
-    ghost use Rattle.urb_group.specs.Step.{Restart};
+    ghost use Rattle.urb_world.specs.Step.{Restart};
 
     ghost event = { λ c. Restart c.node c.image.now.items };
 }

@@ -34,7 +34,7 @@ pub(crate) struct Past {
 
 impl Model for Past {
     ghost use Rattle.std.specs.Prelude.{List};
-    ghost use Rattle.urb_group.specs.Step.{Event};
+    ghost use Rattle.urb_world.specs.Step.{Event};
 
     ghost Value = { List Event };
 

@@ -2,7 +2,7 @@
 //!
 //! Each of the rows that end in ⊥ breaks one rule alone.
 ghost use Rattle.std.specs.Prelude.{[], ◌∷◌};
-ghost use Rattle.urb_group.specs.Step.{Tick};
+ghost use Rattle.urb_world.specs.Step.{Tick};
 ghost use Rattle.urb_names.specs.declared.refusal.NoMemory.{NoMemory as Cause};
 ghost use Rattle.urb_show.specs.ReadFaults.{Leaves};
 ghost use Rattle.urb_show.specs.Readers.{AreOfOneHistory, Learns, LearnsPast, Takes};

@@ -3,7 +3,7 @@ ghost use Rattle.std.specs.Prelude.{Err, None, Ok, Some, [], ◌∷◌};
 ghost use Rattle.urb_names.specs.Names.{name};
 ghost use Rattle.urb_names.specs.declared.refusal.Refusal.TheVariants as refusal;
 ghost use Rattle.urb_group.specs.declared.state.State.TheVariants as state;
-ghost use Rattle.urb_group.specs.internal.Scripts.{message};
+ghost use Rattle.urb_world.specs.internal.Scripts.{message};
 ghost use Rattle.urb_show.specs.Service.{Does, Join, Starts, Step};
 ghost use Rattle.urb_show.specs.Service as seen;
 ghost use Rattle.urb_show.specs.internal.ServiceExamples.{both, down, m1, m2, pair_of, ready};

@@ -4,7 +4,7 @@
 //! The clauses say which event is at the place that a caller gets. The test counts moments, since a
 //! house that never gave one would meet them.
 ghost use Rattle.std.specs.Prelude.{◌≡◌, ◌≤◌, IfSome, length};
-ghost use Rattle.urb_group.specs.Step.{Crash};
+ghost use Rattle.urb_world.specs.Step.{Crash};
 ghost use Rattle.urb_node.specs.Replies.{WentDown};
 ghost use Rattle.urb_show.specs.Houses.{IsNamed};
 ghost use Rattle.urb_show.specs.Pasts.{IsToldAt};

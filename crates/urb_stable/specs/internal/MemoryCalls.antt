@@ -31,9 +31,9 @@ pub record StoresInMemory (old : Memory) (entry : Entry) (result : Result (Unit 
 abbrev pub with_records : List Entry → Memory → Memory
 with_records entries m = record m { certain = m.certain ++ entries }
 
--- What a store does with several records in place: nothing if there are none. Else first if it isn't
--- armed, then if it is armed: it keeps none of them. If no further failure can be counted, an armed
--- store returns NoMemory.
+-- What a store in memory does with several records in place. With an empty list it does nothing. If
+-- it isn't armed, it keeps all of them, unless memory is refused. If it is armed, it keeps no record.
+-- If no further failure can be counted, an armed store returns NoMemory.
 pub record StoresAllInMemory (old : Memory) (entries : List Entry)
     (result : Result (Unit {0}) StoreFault) (new : Memory) : Type 0 where
   pub nothing : entries ≡ [] → (result ≡ Ok tt) × (new ≡ old)

@@ -6,7 +6,7 @@ use Rattle.urb_names.specs.CyclicOrder.{is_after, last_name, resent}
 use Rattle.urb_names.specs.LabelsAndContents.{Content, Label}
 use Rattle.urb_names.specs.Names.{name_lt}
 use Rattle.urb_stubborn.specs.Resends.{Resending, tick_packets}
-use Rattle.urb_stubborn.specs.declared.resend.Turn.{Turn}
+use Rattle.urb_stubborn.specs.declared.resend.TickTurn.{TickTurn}
 
 -- the pending pairs that are due
 abbrev pub due_pairs : Resending → List (Label × Content) → List (Label × Content)
@@ -34,13 +34,13 @@ pub record IsPassed (r : Resending) (x end : Label) : Type 0 where
 
 -- the packets of these pairs were sent, and the turn has that many fewer names left
 pub record IsWalked (r : Resending) (certified : List Label) (sent : List (Label × Content))
-    (turn : Turn) (old : List Carried) (after : Turn) (new : List Carried) : Type 0 where
+    (turn : TickTurn) (old : List Carried) (after : TickTurn) (new : List Carried) : Type 0 where
   pub packets : new ≡ old ++ flat_map (to_unheard r.limits.n r.node certified r.heard) sent
   pub left : after.left ≡ turn.left - length sent
   pub cursor : after.cursor ≡ last_name turn.cursor sent
 
 -- these are the packets of a tick, and this is its last name
 pub record IsTick (r : Resending) (pairs : List (Label × Content)) (certified : List Label)
-    (after : Turn) (sent : List Carried) : Type 0 where
+    (after : TickTurn) (sent : List Carried) : Type 0 where
   pub packets : sent ≡ tick_packets r pairs certified
   pub cursor : after.cursor ≡ last_name r.cursor (resent r.cursor (due_pairs r pairs))

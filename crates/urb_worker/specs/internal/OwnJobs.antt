@@ -4,16 +4,16 @@ use Rattle.std.specs.Prelude.{ℕ, ◌&&◌, ◌==◌, ◌≡◌, ◌∷◌}
 use Rattle.urb_feed.specs.Feeds.{FeedView}
 use Rattle.urb_names.specs.CarriedPackets.{Carried}
 use Rattle.urb_names.specs.PacketGrammar.{spelling}
-use Rattle.urb_worker.specs.Changes.{change_of}
-use Rattle.urb_worker.specs.NodeFeeds.{IsFeedOf, IsNextPortion}
-use Rattle.urb_worker.specs.Views.{FinishedView}
-use Rattle.urb_worker.specs.declared.change.Change.{Change}
-use Rattle.urb_worker.specs.declared.change.Change.TheVariants as change
-use Rattle.urb_worker.specs.declared.job.Job.{Job}
-use Rattle.urb_worker.specs.declared.job.Job.TheVariants as job
+use Rattle.urb_turn.specs.Changes.{change_of}
+use Rattle.urb_turn.specs.NodeFeeds.{IsFeedOf, IsNextPortion}
+use Rattle.urb_turn.specs.Views.{FinishedView}
+use Rattle.urb_turn.specs.declared.change.Change.{Change}
+use Rattle.urb_turn.specs.declared.change.Change.TheVariants as change
+use Rattle.urb_turn.specs.declared.job.Job.{Job}
+use Rattle.urb_turn.specs.declared.job.Job.TheVariants as job
 use Rattle.urb_worker.specs.declared.tickets.Patience.{Patience}
 use Rattle.urb_worker.specs.declared.tickets.Patience.TheVariants as patience
-use Rattle.urb_worker.specs.internal.Arrivals.{IsArrival}
+use Rattle.urb_turn.specs.internal.Arrivals.{IsArrival}
 use Rattle.urb_worker.specs.internal.Pulses.{IsPauseOf, PulseView, is_due, pulse_after}
 
 -- the rest of a node's feed: the packets of its last portion that have not been fed yet, and the

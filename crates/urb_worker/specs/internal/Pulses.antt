@@ -12,9 +12,9 @@ use Rattle.urb_names.specs.declared.refusal.PacketFault.{PacketFault}
 use Rattle.urb_node.specs.Replies.{packets_in}
 use Rattle.urb_node.specs.Steps.{says_heard}
 use Rattle.urb_node.specs.declared.answer.Answer.TheVariants as answer
-use Rattle.urb_worker.specs.Views.{FinishedView}
-use Rattle.urb_worker.specs.declared.job.Job.{Job}
-use Rattle.urb_worker.specs.declared.job.Job.TheVariants as job
+use Rattle.urb_turn.specs.Views.{FinishedView}
+use Rattle.urb_turn.specs.declared.job.Job.{Job}
+use Rattle.urb_turn.specs.declared.job.Job.TheVariants as job
 use Rattle.urb_worker.specs.declared.pulse.TheConstants.{EARLY_TICKS, LEAST_PAUSE}
 use Rattle.urb_worker.specs.declared.tickets.Patience.{Patience}
 use Rattle.urb_worker.specs.declared.tickets.Patience.TheVariants as patience

@@ -2,15 +2,15 @@
 use Rattle.std.specs.Prelude.{Err, List, Ok, Result, [], length, map, ℕ, ◌∷◌, ◌≡◌, ◌⊎◌}
 use Rattle.urb_stable.specs.declared.stable.Stable.{Ghosts}
 use Rattle.urb_group.specs.GroupViews.{GroupView, IsSound, Shows}
-use Rattle.urb_group.specs.Step.{Event}
-use Rattle.urb_group.specs.World.{World}
+use Rattle.urb_world.specs.Step.{Event}
+use Rattle.urb_world.specs.World.{World}
 use Rattle.urb_worker.specs.Acts.{Act}
 use Rattle.urb_show.specs.Pasts.{IsLedTo}
-use Rattle.urb_worker.specs.Counting.{TallyView}
-use Rattle.urb_worker.specs.LastLoans.{AllRestSince}
-use Rattle.urb_worker.specs.NodeStores.{IsStoreAfter, IsStoreSince}
+use Rattle.urb_turn.specs.Counting.{TallyView}
+use Rattle.urb_turn.specs.LastLoans.{AllRestSince}
+use Rattle.urb_turn.specs.NodeStores.{IsStoreAfter, IsStoreSince}
 use Rattle.urb_worker.specs.ServedStores.{Works}
-use Rattle.urb_worker.specs.declared.job.Job.{Job}
+use Rattle.urb_turn.specs.declared.job.Job.{Job}
 
 -- the value of f for each element of a list
 abbrev pub each : {X Y : Type 0} → List X → (X → Y) → List Y

@@ -16,12 +16,13 @@ use std::thread;
 use std::thread::Threads;
 use std::time::{Clock, Duration};
 use urb_group::MemStable;
+use urb_link::{
+    ArrivalQueue, Link, MemoryLink, PacedLink, Station, Stop, Ticket, UdpLink, receive,
+};
 use urb_names::{ClientId, MAX_PAYLOAD, NodeId, Payload};
 use urb_show::{HouseName, Opened};
-use urb_worker::{
-    ArrivalQueue, Gate, HubName, Job, Link, MemoryLink, OpenGate, PacedLink, Station, Stop, Ticket,
-    UdpLink, receive, serve,
-};
+use urb_turn::{Gate, HubName, Job, OpenGate};
+use urb_worker::serve;
 
 // The number of messages that node 2 has sent: the group's cap.
 const BURST: u32 = 100;

@@ -14,10 +14,13 @@ use std::thread;
 use std::thread::Threads;
 use std::time::Clock;
 use urb_client::{Ended, session};
+use urb_desk::NodeDesk;
 use urb_group::MemStable;
+use urb_link::{MemoryLink, Ticket};
 use urb_names::NodeId;
 use urb_show::{HouseName, LogReader, Opened};
-use urb_worker::{HubName, MemoryLink, NodeDesk, OpenGate, Ticket, serve};
+use urb_turn::{HubName, OpenGate};
+use urb_worker::serve;
 
 // What a client sends to a group of one node.
 //

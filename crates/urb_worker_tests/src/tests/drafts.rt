@@ -13,7 +13,7 @@ use std::test::Fail;
 use urb_group::MemStable;
 use urb_names::NodeId;
 use urb_show::{HouseName, Opened};
-use urb_worker::{Gate, Hub, HubName, Job, Tally};
+use urb_turn::{Gate, Hub, HubName, Job, Tally};
 
 // Counts how often each node was about to store a record: node 1 in ones, and all others in
 // hundreds.

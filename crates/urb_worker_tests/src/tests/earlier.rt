@@ -16,10 +16,12 @@ use std::thread;
 use std::thread::Threads;
 use std::time::Clock;
 use urb_client::{Control, Desk, Request, Response};
+use urb_desk::NodeDesk;
 use urb_group::MemStable;
+use urb_link::Ticket;
 use urb_names::NodeId;
 use urb_show::{House, HouseName, LogReader, Opened};
-use urb_worker::{Finished, Job, NodeDesk, Ticket, Turn};
+use urb_turn::{Finished, Job, Turn};
 
 // A turn that asks for the node's status.
 fn ask_status<K: HouseName, R: Wait>(

@@ -12,13 +12,14 @@ use std::test::Fail;
 use std::thread;
 use std::thread::Threads;
 use std::time::{Clock, Duration};
+use urb_desk::{ClientLimits, LEAST_CONNECTIONS};
 use urb_group::Group;
+use urb_link::{Station, UdpLink};
 use urb_names::{ClientId, Config, Message, Name, NodeId};
 use urb_show::{House, Opened};
 use urb_stable::{MemStable, Record, Stable};
-use urb_worker::{
-    ClientLimits, GroupSetting, LEAST_CONNECTIONS, Silent, Station, UdpLink, Watch, run_group,
-};
+use urb_turn::Silent;
+use urb_worker::{GroupSetting, Watch, run_group};
 
 // How many messages of node 1 are stored before a group starts.
 const MESSAGES: u32 = 100;

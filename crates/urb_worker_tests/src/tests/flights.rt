@@ -6,11 +6,11 @@ use std::net::{Net, TcpListener, TcpStream};
 use std::sync::Wait;
 use std::test::Fail;
 use std::time::{Clock, Duration, Instant};
-use urb_names::{MAX_PACKET, NodeId};
-use urb_worker::{
+use urb_link::{
     BACKLOG, Backlog, CARRYING, FULL_BACKLOG, InFlight, KEEPING, LONG_BACKLOG, Link,
     MOST_IN_FLIGHT, MemoryLink, PacedLink, Station,
 };
+use urb_names::{MAX_PACKET, NodeId};
 
 // The bytes of the longest packet.
 const LONGEST: usize = MAX_PACKET;

@@ -17,9 +17,11 @@ use std::thread;
 use std::thread::Threads;
 use std::time::{Clock, Duration};
 use urb_group::{MemStable, Record, Stable, StoreFault};
+use urb_link::{MemoryLink, Ticket};
 use urb_names::NodeId;
 use urb_show::{HouseName, Opened};
-use urb_worker::{Finished, Gate, HubName, Job, MemoryLink, OpenGate, Ticket, serve};
+use urb_turn::{Finished, Gate, HubName, Job, OpenGate};
+use urb_worker::serve;
 
 // What node 1's side and the client signal to each other: how often node 1's store was held, whether
 // node 2 was answered, and whether node 1's side gave up waiting for that.

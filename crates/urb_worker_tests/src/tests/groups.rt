@@ -15,10 +15,11 @@ use std::test::Fail;
 use std::thread;
 use std::thread::Threads;
 use std::time::{Clock, Duration};
+use urb_desk::{ClientLimits, IDLE_MINUTES};
+use urb_link::{Station, UdpLink};
 use urb_stable::MemStable;
-use urb_worker::{
-    ClientLimits, GroupSetting, IDLE_MINUTES, Silent, Station, UdpLink, Watch, run_group,
-};
+use urb_turn::Silent;
+use urb_worker::{GroupSetting, Watch, run_group};
 
 // How many clients a node serves at a time.
 const CLIENTS: usize = 300;

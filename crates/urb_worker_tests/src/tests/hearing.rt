@@ -11,11 +11,11 @@ use std::sync::ledger::Blank;
 use std::test::Fail;
 use std::time::Clock;
 use urb_group::MemStable;
+use urb_link::{MemoryLink, Ticket};
 use urb_names::NodeId;
 use urb_show::{House, HouseName, Opened};
-use urb_worker::{
-    Hub, HubName, Job, MemoryLink, OpenGate, Silent, Tally, Ticket, WorkerSetting, serve_from,
-};
+use urb_turn::{Hub, HubName, Job, OpenGate, Silent, Tally};
+use urb_worker::{WorkerSetting, serve_from};
 
 // Nodes with their stores. Each node does a job when the test asks it to.
 #[derive(Drop)]

@@ -16,10 +16,13 @@ use std::thread;
 use std::thread::Threads;
 use std::time::Clock;
 use urb_client::{Desk, Request, Response};
+use urb_desk::NodeDesk;
 use urb_group::MemStable;
+use urb_link::{MemoryLink, Ticket};
 use urb_names::{ClientId, Message, Name, NodeId, Payload};
 use urb_show::{HouseName, LogReader, Opened};
-use urb_worker::{HubName, MemoryLink, NodeDesk, OpenGate, Ticket, serve};
+use urb_turn::{HubName, OpenGate};
+use urb_worker::serve;
 
 // The response to a submit: the number of its message, or a refusal with its detail.
 #[derive(Clone, Copy, PartialEq, Eq)]

@@ -14,13 +14,12 @@ use std::test::Fail;
 use std::thread;
 use std::thread::Threads;
 use std::time::{Clock, Duration};
+use urb_link::{MemoryLink, Ticket};
 use urb_names::NodeId;
 use urb_show::{HouseName, Opened};
 use urb_stable::MemStable;
-use urb_worker::{
-    EARLY_TICKS, Hub, HubName, Job, MemoryLink, OpenGate, Silent, Tally, Ticket, WorkerSetting,
-    serve_from,
-};
+use urb_turn::{Hub, HubName, Job, OpenGate, Silent, Tally};
+use urb_worker::{EARLY_TICKS, WorkerSetting, serve_from};
 
 // Tickets for a node: `count` of them, each a status or a tick.
 fn make_tickets<K: HouseName, R: Wait>(

@@ -6,7 +6,7 @@ use std::test::Fail;
 use std::thread;
 use std::thread::Threads;
 use std::time::{Clock, Duration};
-use urb_worker::{SESSION_TICKETS, TicketPlaces};
+use urb_desk::{SESSION_TICKETS, TicketPlaces};
 
 // All places but one are taken. Takes it, and has another thread take one more. Then gives it back.
 // Returns whether that thread waited until then, and got a place.

@@ -9,10 +9,11 @@ use std::test::Fail;
 use std::thread;
 use std::thread::Threads;
 use std::time::{Clock, Duration};
-use urb_names::{MAX_PACKET, NodeId};
-use urb_worker::{
-    ArrivalQueue, BACKLOG, Job, KEEPING, Link, PacedLink, Station, Stop, Ticket, UdpLink, receive,
+use urb_link::{
+    ArrivalQueue, BACKLOG, KEEPING, Link, PacedLink, Station, Stop, Ticket, UdpLink, receive,
 };
+use urb_names::{MAX_PACKET, NodeId};
+use urb_turn::Job;
 
 // The bytes of the longest packet.
 const LONGEST: usize = MAX_PACKET;

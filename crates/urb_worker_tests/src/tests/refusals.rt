@@ -15,10 +15,13 @@ use std::thread;
 use std::thread::Threads;
 use std::time::Clock;
 use urb_client::{Ended, session};
+use urb_desk::NodeDesk;
 use urb_group::{Group, MemStable, Record, Stable, StoreFault};
+use urb_link::{MemoryLink, Ticket};
 use urb_names::{Config, NodeId};
 use urb_show::{House, HouseName, LogReader, Opened};
-use urb_worker::{HubName, MemoryLink, NodeDesk, OpenGate, Ticket, serve};
+use urb_turn::{HubName, OpenGate};
+use urb_worker::serve;
 
 /// What a strange store answers if it is asked for its records.
 #[derive(Clone, Copy)]

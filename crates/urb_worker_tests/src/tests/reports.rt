@@ -14,11 +14,12 @@ use std::test::Fail;
 use std::thread;
 use std::thread::Threads;
 use std::time::{Clock, Duration};
+use urb_desk::{ClientLimits, LEAST_CONNECTIONS};
+use urb_link::Station;
 use urb_names::{NodeId, Refusal};
 use urb_stable::{Failure, MemStable};
-use urb_worker::{
-    Change, ClientLimits, GroupSetting, LEAST_CONNECTIONS, Reporter, Station, Watch, run_group,
-};
+use urb_turn::{Change, Reporter};
+use urb_worker::{GroupSetting, Watch, run_group};
 
 // A submit, a status, a restart and a crash, each followed by a bad length, by which a session
 // ends.

@@ -12,7 +12,7 @@ use std::test::Fail;
 use urb_group::{MemStable, Reply};
 use urb_names::NodeId;
 use urb_show::{HouseName, Opened};
-use urb_worker::{Hub, HubName, Job, OpenGate, Tally};
+use urb_turn::{Hub, HubName, Job, OpenGate, Tally};
 
 // The number of packets that a tick's reply hands out.
 fn sent_count(reply: &Reply) -> usize {

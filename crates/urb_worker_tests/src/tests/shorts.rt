@@ -3,7 +3,7 @@
 use urb_group::Reply;
 use urb_names::Refusal;
 use urb_show::HouseName;
-use urb_worker::{Finished, Settling};
+use urb_turn::{Finished, Settling};
 
 /// What a reply says. A submit that was stored has its number.
 #[derive(Clone, Copy, PartialEq, Eq)]

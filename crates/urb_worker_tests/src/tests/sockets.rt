@@ -17,8 +17,11 @@ use std::sync::ledger::Blank;
 use std::test::Fail;
 use std::thread::Threads;
 use std::time::{Clock, Duration};
+use urb_desk::ClientLimits;
+use urb_link::{Station, UdpLink};
 use urb_stable::MemStable;
-use urb_worker::{ClientLimits, GroupSetting, Silent, Station, UdpLink, Watch, run_group};
+use urb_turn::Silent;
+use urb_worker::{GroupSetting, Watch, run_group};
 
 // A submit of client 7's first message, `x`, and then a bad length, which ends a session. Then the
 // answers: that the message was accepted, and the answer to the bad length.

@@ -3,10 +3,9 @@
 use std::alloc::Global;
 use std::marker::Brand;
 use std::test::Fail;
+use urb_link::{Link, MemoryLink, PacedLink, SPARES, Spares, Station};
 use urb_names::{NoMemory, NodeId};
-use urb_worker::{
-    Finished, HandledDatagram, Job, Link, MemoryLink, PacedLink, SPARES, Spares, Station,
-};
+use urb_turn::{Finished, HandledDatagram, Job};
 
 // Takes a buffer more often than any can be kept, and counts those with this room.
 fn count_kept(spares: &Spares, room: usize) -> usize {

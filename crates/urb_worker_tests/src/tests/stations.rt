@@ -3,7 +3,7 @@
 use std::net::{Ipv4Addr, Net, TcpListener, TcpStream, UdpSocket};
 use std::test::Fail;
 use std::time::Duration;
-use urb_worker::Station;
+use urb_link::Station;
 
 // Whether a station's ports are those of its sockets, and these listen only on 127.0.0.1. On
 // another address of this machine both ports are free.

@@ -14,9 +14,11 @@ use std::thread;
 use std::thread::Threads;
 use std::time::Clock;
 use urb_client::{Control, Desk, Request, Response};
+use urb_desk::NodeDesk;
+use urb_link::Ticket;
 use urb_names::{ClientId, NodeId, Payload};
 use urb_show::{HouseName, LogReader, Opened};
-use urb_worker::{Finished, Job, NodeDesk, Ticket};
+use urb_turn::{Finished, Job};
 
 // What a worker does with a ticket. It drops it, or answers with the outcome of another job, or
 // says that this job did not run.

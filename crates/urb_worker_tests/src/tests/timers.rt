@@ -8,7 +8,8 @@ use std::test::Fail;
 use std::thread;
 use std::thread::Threads;
 use std::time::{Clock, Duration, Instant};
-use urb_worker::{Job, Stop, TickQueues, Ticket, timer};
+use urb_link::{Stop, TickQueues, Ticket, timer};
+use urb_turn::Job;
 
 // Whether a ticket is a tick of this node, and nobody waits for its answer.
 fn is_tick_at(ticket: &Ticket<Brand>, number: u8) -> bool {

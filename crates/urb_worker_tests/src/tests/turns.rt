@@ -13,7 +13,7 @@ use std::test::Fail;
 use urb_group::{Failure, MemStable};
 use urb_names::NodeId;
 use urb_show::{House, HouseName, Opened};
-use urb_worker::{HubName, Job, OpenGate, Turn};
+use urb_turn::{HubName, Job, OpenGate, Turn};
 
 // The outcome of a job on a House, with its store.
 fn run_turn<K: HouseName, R: Wait>(

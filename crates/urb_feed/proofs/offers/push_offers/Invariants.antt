@@ -1,7 +1,7 @@
 use Rattle.std.proofs.Common.{flat_map, ◌++◌, ◌-◌, ◌≡◌}
 use Rattle.urb_feed.specs.MissingNames.{offer}
 use Rattle.urb_group.specs.GroupViews.{Shows}
-use Rattle.urb_group.specs.World.{World}
+use Rattle.urb_world.specs.World.{World}
 use Rattle.urb_names.specs.Nodes.{numbers_from}
 use Rattle.urb_feed.proofs.offers.push_offers.Given as goal
 

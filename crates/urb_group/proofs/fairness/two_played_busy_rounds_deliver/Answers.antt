@@ -1,5 +1,5 @@
 -- Two busy rounds that are played deliver.
-use Rattle.urb_group.proofs.rounds.CommandRounds.{played-busy}
+use Rattle.urb_group.proofs.calls.CommandRounds.{played-busy}
 use Rattle.urb_group.proofs.fairness.two_played_busy_rounds_deliver.Goals as goal
 
 pub returns : goal.returns

@@ -1,5 +1,5 @@
 use Rattle.urb_group.proofs.stops.AheadStores.{replay-ends, replay-one}
-use Rattle.urb_group.specs.Step.{Arrive, Submit}
+use Rattle.urb_world.specs.Step.{Arrive, Submit}
 use Rattle.urb_group.proofs.laws.a_replay_keeps_its_store.Goals as goal
 
 pub returns-clause-submit : goal.returns-clause-submit

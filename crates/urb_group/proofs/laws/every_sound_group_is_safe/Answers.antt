@@ -1,7 +1,7 @@
-use Rattle.urb_group.proofs.moves.AcceptedSubmits.{accepted-stored}
+use Rattle.urb_world.proofs.safety.AcceptedSubmits.{accepted-stored}
 use Rattle.urb_group.proofs.shown.AgreeingWorlds.{sound-kept}
-use Rattle.urb_group.proofs.safety.SafeWorlds.{one_message, safe}
-use Rattle.urb_group.proofs.stops.StoppedWorlds.{survives}
+use Rattle.urb_world.proofs.safety.SafeWorlds.{one_message, safe}
+use Rattle.urb_world.proofs.stops.StoppedWorlds.{survives}
 use Rattle.urb_group.proofs.laws.every_sound_group_is_safe.Goals as goal
 
 pub returns-clause-safe : goal.returns-clause-safe

@@ -1,5 +1,5 @@
 use Rattle.urb_group.proofs.shown.AgreeingWorlds.{sound-kept}
-use Rattle.urb_group.proofs.safety.RunsOfKeptWorlds.{kept-sent, kept-told}
+use Rattle.urb_world.proofs.safety.RunsOfKeptWorlds.{kept-sent, kept-told}
 use Rattle.urb_group.proofs.laws.every_sound_group_tells_the_truth.Goals as goal
 
 pub returns-clause-told : goal.returns-clause-told

@@ -1,5 +1,5 @@
 use Rattle.urb_group.proofs.shown.AgreeingWorlds.{sound-kept}
-use Rattle.urb_group.proofs.safety.RunsOfKeptWorlds.{kept-agree, kept-grow}
+use Rattle.urb_world.proofs.safety.RunsOfKeptWorlds.{kept-agree, kept-grow}
 use Rattle.urb_group.proofs.laws.every_sound_groups_logs_agree.Goals as goal
 
 pub returns-clause-agree : goal.returns-clause-agree

@@ -1,7 +1,7 @@
 use Rattle.std.proofs.Common.{rules, ◌≡◌}
 use Rattle.urb_group.proofs.calls.HeldDrafts.{steps-calm}
 use Rattle.urb_group.specs.GroupCalls.{Steps}
-use Rattle.urb_group.specs.Step.{Restart}
+use Rattle.urb_world.specs.Step.{Restart}
 use Rattle.urb_node.specs.Replies.{Up}
 use Rattle.urb_group.proofs.stores.restart_with.Goals as goal
 

@@ -3,7 +3,7 @@ use Rattle.urb_group.proofs.calls.HeldDrafts.{steps-calm}
 use Rattle.urb_group.proofs.calls.StoreAnswers.{crash-as-fail, crash-taken}
 use Rattle.urb_group.specs.GroupCalls.{Steps}
 use Rattle.urb_group.specs.GroupStores.{held_draft}
-use Rattle.urb_group.specs.Step.{Crash, Fail}
+use Rattle.urb_world.specs.Step.{Crash, Fail}
 use Rattle.urb_node.specs.Replies.{WentDown}
 use Rattle.urb_group.proofs.stores.take_down.Goals as goal
 

@@ -3,4 +3,4 @@ use Rattle.urb_node.proofs.ready.step_of.Goals as goal
 
 pub overflow_add-held : goal.overflow_add-held
 overflow_add-held g c =
-    one_more_fits c.args.held c.requires.kept c.recall.ensures c.recall-in-New.ensures
+    one_more_fits c.args.held c.requires.kept c.recall.ensures c.recall-in-Continue.ensures

@@ -1,4 +1,4 @@
-use Rattle.urb_group.specs.RecoveryPlans.{after}
+use Rattle.urb_world.specs.RecoveryPlans.{after}
 use Rattle.urb_show.proofs.HouseRounds.{shown_after_four}
 use Rattle.urb_show.proofs.PastEvents.{reached_after}
 use Rattle.urb_show.proofs.laws.three_rounds_of_a_house_end_its_ticks.Goals as goal

@@ -1,6 +1,6 @@
 use Rattle.std.proofs.Common.{[], ap, refl, subst, ◌≡◌, ◌∙◌}
 use Rattle.urb_group.specs.GroupViews.{IsSound}
-use Rattle.urb_group.specs.Step.{Event}
+use Rattle.urb_world.specs.Step.{Event}
 use Rattle.urb_show.specs.declared.entry.Addition.{Addition}
 use Rattle.urb_show.proofs.DeliveredPlaces.{opened_delivered}
 use Rattle.urb_show.proofs.GroupLists.{lists_agree}

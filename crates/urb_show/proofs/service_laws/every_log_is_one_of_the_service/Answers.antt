@@ -1,7 +1,7 @@
 use Rattle.std.proofs.Common.{[], refl, ◌∙◌}
 use Rattle.urb_group.proofs.shown.Deliveries.{deliveries-known}
-use Rattle.urb_group.proofs.steps.Runs.{reached-keeps}
-use Rattle.urb_group.specs.World.{stored}
+use Rattle.urb_world.proofs.steps.Runs.{reached-keeps}
+use Rattle.urb_world.specs.World.{stored}
 use Rattle.urb_show.proofs.ServiceJoins.{entries-shown, logs-join}
 use Rattle.urb_show.proofs.service_laws.every_log_is_one_of_the_service.Goals as goal
 use Rattle.urb_stable.specs.DeliveredLogs.{log}

@@ -1,4 +1,4 @@
-use Rattle.urb_group.proofs.steps.Runs.{reached-keeps}
+use Rattle.urb_world.proofs.steps.Runs.{reached-keeps}
 use Rattle.urb_show.proofs.ServiceLaws.{run-shown}
 use Rattle.urb_show.proofs.service_laws.every_run_is_one_of_the_service.Goals as goal
 

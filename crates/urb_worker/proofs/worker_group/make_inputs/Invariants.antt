@@ -1,5 +1,5 @@
 use Rattle.std.proofs.Common.{◌≡◌, ◌+◌, ◌++◌, ◌≤◌, [], reverse, vec_len, vec_capacity}
-use Rattle.urb_worker.specs.LastLoans.{AllBegin}
+use Rattle.urb_turn.specs.LastLoans.{AllBegin}
 use Rattle.urb_worker.specs.ServedStores.{numbers_from}
 use Rattle.urb_worker.specs.internal.ServedStores.{each}
 use Rattle.urb_worker.proofs.worker_group.make_inputs.Given as goal

@@ -1,6 +1,6 @@
 use Rattle.urb_group.specs.GroupViews.{Shows}
-use Rattle.urb_group.specs.World.{World}
-use Rattle.urb_worker.specs.NodeStores.{IsStoreSince}
+use Rattle.urb_world.specs.World.{World}
+use Rattle.urb_turn.specs.NodeStores.{IsStoreSince}
 use Rattle.urb_worker.specs.ServedStores.{HasServed}
 use Rattle.urb_worker.proofs.worker_loop.serve_from.Given as goal
 

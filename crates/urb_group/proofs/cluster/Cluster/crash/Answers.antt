@@ -1,7 +1,7 @@
 use Rattle.std.proofs.Common.{refl, rules, ◌≡◌}
 use Rattle.urb_group.proofs.calls.DraftsInCalls.{down-bounds, down-tied}
 use Rattle.urb_group.specs.GroupCalls.{IsRefused, Steps}
-use Rattle.urb_group.specs.Step.{Crash}
+use Rattle.urb_world.specs.Step.{Crash}
 use Rattle.urb_node.specs.Replies.{WentDown}
 use Rattle.urb_group.proofs.cluster.Cluster.crash.Goals as goal
 

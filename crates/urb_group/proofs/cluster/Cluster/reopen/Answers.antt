@@ -2,6 +2,7 @@ use Rattle.std.proofs.Common.{ap, arith, length, rules, subst, sym, ◌∙◌, �
 use Rattle.std.specs.List.{All}
 use Rattle.urb_names.specs.LabelsAndContents.{Limits}
 use Rattle.urb_group.proofs.stops.SecuredOpenings.{secured-known}
+use Rattle.urb_group.proofs.stops.StoredWorlds.{as-itself}
 use Rattle.urb_group.specs.StoreOpenings.{Continues, OpensStores, stores_in}
 use Rattle.urb_group.specs.GroupViews.{GroupView, IsSound}
 use Rattle.urb_group.specs.StoreContents.{AllHold, IsKnown, RestLeaves, StopLeaves}
@@ -37,7 +38,9 @@ returns-clause-goes_on g c =
           subst (λ (group : GroupView). length group.nodes ≡ group.size.n) (sym group)
           c.recall.ensures.counted;
       nodes = let most = ap (λ (limits : Limits). limits.n) size in omega (arith, most);
+      shown = stocked.world;
       shows = stocked.shows;
+      stands = as-itself stocked.world;
       holds =
           subst (λ passed. AllHold g.S.Stable stocked.world passed) stores
           (λ i store got. (stocked.stores i store got).contents);

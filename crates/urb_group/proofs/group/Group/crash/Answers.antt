@@ -1,4 +1,4 @@
-use Rattle.urb_group.specs.Step.{Crash}
+use Rattle.urb_world.specs.Step.{Crash}
 use Rattle.urb_group.proofs.moves.GroupMoves.{crash-moved}
 use Rattle.urb_group.proofs.shown.NodeMoves.{nowhere}
 use Rattle.urb_group.proofs.group.Group.crash.Goals as goal

@@ -1,4 +1,4 @@
-use Rattle.urb_group.specs.Step.{Fail}
+use Rattle.urb_world.specs.Step.{Fail}
 use Rattle.urb_group.proofs.moves.GroupMoves.{fail-moved}
 use Rattle.urb_group.proofs.shown.NodeMoves.{nowhere}
 use Rattle.urb_group.proofs.group.Group.fail.Goals as goal

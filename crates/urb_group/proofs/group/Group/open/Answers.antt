@@ -11,7 +11,7 @@ use Rattle.urb_stable.specs.Images.{image_of}
 use Rattle.urb_group.proofs.moves.NewPlaces.{some_from, value_from}
 use Rattle.urb_group.proofs.moves.OpenedPlaces.{HasOpened, all-group, all-opens, more-opened}
 use Rattle.urb_group.proofs.moves.OpenedPlaces.{next-counted, next-keeps, none-opened}
-use Rattle.urb_group.specs.World.{AreImages}
+use Rattle.urb_world.specs.World.{AreImages}
 use Rattle.urb_group.proofs.group.Group.open.Goals as goal
 
 none_left : {X : Type 0} (xs : List X) (n : ℕ) → n ≡ length xs → n ≡ 0 → xs ≡ []

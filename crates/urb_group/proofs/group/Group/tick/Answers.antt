@@ -1,5 +1,5 @@
 use Rattle.std.proofs.Common.{rules}
-use Rattle.urb_group.specs.Step.{Tick}
+use Rattle.urb_world.specs.Step.{Tick}
 use Rattle.urb_group.proofs.moves.GroupMoves.{tick-moved}
 use Rattle.urb_group.proofs.shown.NodeMoves.{nowhere}
 use Rattle.urb_group.proofs.group.Group.tick.Goals as goal

@@ -2,8 +2,8 @@
 use Rattle.std.proofs.Common.{refl}
 use Rattle.std.proofs.lemmas.Bool.{false≢true}
 use Rattle.urb_names.specs.Names.{name}
-use Rattle.urb_group.specs.internal.Examples.{filled}
-use Rattle.urb_group.specs.internal.Scripts.{message}
+use Rattle.urb_world.specs.internal.Examples.{filled}
+use Rattle.urb_world.specs.internal.Scripts.{message}
 use Rattle.urb_group.proofs.worked.shown.what_memory_does_not_show.Goals as goal
 
 pub returns-clause-no_pairs : goal.returns-clause-no_pairs

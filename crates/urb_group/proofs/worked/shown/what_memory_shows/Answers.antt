@@ -5,7 +5,7 @@ use Rattle.urb_node.specs.Part.{opened_node}
 use Rattle.urb_names.specs.LabelsAndContents.{Limits}
 use Rattle.urb_stable.specs.Fitting.{KeepsOwn}
 use Rattle.urb_group.specs.GroupViews.{view_of}
-use Rattle.urb_group.specs.internal.Examples.{limits, seen_node, seen_view}
+use Rattle.urb_world.specs.internal.Examples.{limits, seen_node, seen_view}
 use Rattle.urb_group.proofs.worked.shown.what_memory_shows.Goals as goal
 
 -- what is counted for another name than the certified one

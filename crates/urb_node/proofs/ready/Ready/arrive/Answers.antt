@@ -26,7 +26,7 @@ returns-in-Ok-clause-event g c =
     found-leads c.judge_packet.new.held
     (arrives old.limits old.node p.source p.name p.message p.flags node)
     (arrive_outcome old p.source p.name p.message p.flags) old
-    (memory_of c.judge_packet.new.held) c.in-Ok.found
+    (memory_of c.judge_packet.new.held) c.in-Ok.next
     (arrive-says old p.source p.name p.message p.flags node s
     (λ e. c.recall.ensures.apart (sym (target ∙ e)))
     c.self.invariant.node.0 c.self.invariant.node.1 c.recall.ensures.source.0 source)
@@ -59,7 +59,7 @@ returns-in-Ok-clause-memory g c =
     (λ may. subst (λ r. AnswersFrom r) (sym c.step_of.ensures)
     (arrived-from old p.source p.name p.message p.flags
     (memory_of c.judge_packet.new.held)
-    c.in-Ok.found may.same c.in-Ok.ensures.outcome)) c.requires.packet.pair
+    c.in-Ok.next may.same c.in-Ok.ensures.outcome)) c.requires.packet.pair
 
 pub returns-in-Ok-clause-stored : goal.returns-in-Ok-clause-stored
 returns-in-Ok-clause-stored g c =
@@ -70,4 +70,4 @@ returns-in-Ok-clause-stored g c =
     (λ may. answers-of_stored c.step_of.result (subst (λ r. AnswersFrom r) (sym c.step_of.ensures)
     (arrived-from old p.source p.name p.message p.flags
     (memory_of c.judge_packet.new.held)
-    c.in-Ok.found may.same c.in-Ok.ensures.outcome))) c.requires.packet.pair
+    c.in-Ok.next may.same c.in-Ok.ensures.outcome))) c.requires.packet.pair

@@ -27,7 +27,7 @@ returns-in-Ok-clause-event g c =
     → LeadsTo (submits old.limits old.node m node) old (Ok r)) (sym c.step_of.ensures)
     (λ node s.
     found-leads c.judge_submit.new.held (submits old.limits old.node m node)
-    (submit_outcome old m) old (memory_of c.judge_submit.new.held) c.in-Ok.found
+    (submit_outcome old m) old (memory_of c.judge_submit.new.held) c.in-Ok.next
     (submit-says old m node s c.recall.ensures.rising some)
     c.in-Ok.ensures.outcome c.in-Ok.ensures.same c.in-Ok.ensures.wanted))
 

@@ -4,7 +4,7 @@ use Rattle.urb_names.specs.Nodes.{is_node}
 use Rattle.urb_names.specs.Pairs.{message_of}
 use Rattle.urb_stable.specs.Records.{pend}
 use Rattle.urb_group.specs.GroupViews.{Shows}
-use Rattle.urb_group.specs.World.{World, stored}
+use Rattle.urb_world.specs.World.{World, stored}
 use Rattle.urb_script.specs.Texts.{entry_text}
 use Rattle.urb_script.proofs.mem_cluster.MemCluster.push_entries.Given as goal
 

@@ -6,7 +6,7 @@ use Rattle.urb_names.specs.Nodes.{numbers_from}
 use Rattle.urb_names.specs.Pairs.{message_of}
 use Rattle.urb_stable.specs.Records.{pend}
 use Rattle.urb_group.specs.GroupViews.{Shows}
-use Rattle.urb_group.specs.World.{World, stored}
+use Rattle.urb_world.specs.World.{World, stored}
 use Rattle.urb_script.specs.Steps.{holders}
 use Rattle.urb_script.proofs.mem_cluster.MemCluster.push_holders.Given as goal
 

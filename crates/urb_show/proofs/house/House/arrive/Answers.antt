@@ -1,6 +1,6 @@
 use Rattle.std.proofs.Common.{ap}
 use Rattle.urb_names.specs.PacketGrammar.{packet_of}
-use Rattle.urb_group.specs.Step.{Arrive}
+use Rattle.urb_world.specs.Step.{Arrive}
 use Rattle.urb_show.proofs.GroupLists.{house_after, takes_follow}
 use Rattle.urb_show.proofs.PastEvents.{has_past_after, told_after}
 use Rattle.urb_show.proofs.ToldReplies.{recorded, takes_step}

@@ -1,6 +1,6 @@
 use Rattle.std.proofs.Common.{List, [], ap, arith, length, slice_set, subst, sym, ℕ, ◌+◌, ◌++◌, ◌-◌}
 use Rattle.std.proofs.Common.{◌<◌, ◌∙◌, ◌∷◌, ◌≡◌}
-use Rattle.urb_group.specs.Step.{Event}
+use Rattle.urb_world.specs.Step.{Event}
 use Rattle.urb_show.proofs.AgreeingLists.{agree_begins}
 use Rattle.urb_show.proofs.DeliveredPlaces.{led_delivered}
 use Rattle.urb_show.specs.DeliveredLists.{AreDeliveredBy}

@@ -1,5 +1,5 @@
 use Rattle.std.proofs.Common.{ap}
-use Rattle.urb_group.specs.Step.{Submit}
+use Rattle.urb_world.specs.Step.{Submit}
 use Rattle.urb_show.proofs.GroupLists.{house_after, takes_follow}
 use Rattle.urb_show.proofs.PastEvents.{has_past_after, told_after}
 use Rattle.urb_show.proofs.ToldReplies.{recorded, takes_step}

@@ -1,5 +1,5 @@
 use Rattle.std.proofs.Common.{List, ◌≡◌, ◌∙◌, ap, ap₂, subst, sym, ◌-◌}
-use Rattle.urb_group.specs.Step.{Event}
+use Rattle.urb_world.specs.Step.{Event}
 use Rattle.urb_show.specs.Additions.{lists_of}
 use Rattle.urb_show.specs.DeliveredLists.{AreDeliveredBy}
 use Rattle.urb_show.specs.Lists.{Lists, list_at}

@@ -1,6 +1,6 @@
 use Rattle.std.proofs.Common.{rules, ◌≡◌, sym, ◌∙◌, ap, subst, le_refl, inr, List, ◌-◌, ℕ, arith}
 use mathlib.Core.List.{IsPrefix}
-use Rattle.urb_group.specs.Step.{Event}
+use Rattle.urb_world.specs.Step.{Event}
 use Rattle.urb_show.specs.declared.entry.Addition.{Addition}
 use Rattle.urb_show.specs.Additions.{lists_of}
 use Rattle.urb_show.specs.internal.Marks.{MarkView}

@@ -1,7 +1,7 @@
 -- Two pages of one entry each.
 use Rattle.std.proofs.Common.{Contains, List, [], ap, arith, refl, slice_index_or, subst, suc, sym}
 use Rattle.std.proofs.Common.{zero, ◌∙◌, ◌∷◌, ◌≡◌}
-use Rattle.urb_show.specs.declared.entry.Entry.{Entry as Told}
+use Rattle.urb_show.specs.declared.entry.Entry.{Entry}
 use Rattle.urb_show.specs.internal.Examples.{told}
 use Rattle.urb_names.specs.LabelsAndContents.{Label}
 use Rattle.urb_show.proofs.worked.pages.pages_of_two_readers.Goals as goal
@@ -9,20 +9,20 @@ use Rattle.urb_show.proofs.worked.pages.pages_of_two_readers.Goals as goal
 -- one letter is not another
 apart : told 1 1 "a" ≡ told 1 1 "b" → ⊥
 apart same =
-    let first : 97 ≡ 98 = ap (λ (e : Told). slice_index_or e.message.payload 0 0) same in
+    let first : 97 ≡ 98 = ap (λ (e : Entry). slice_index_or e.message.payload 0 0) same in
     omega (arith, first)
 
 -- the only entry of a list
-sole : (x y : Told) → Contains (x ∷ []) y → x ≡ y
+sole : (x y : Entry) → Contains (x ∷ []) y → x ≡ y
 sole x y (zero, low, is) = is
 sole x y (suc k, low, is) = absurd (omega (arith, low))
 
 -- the only entry of a page
-shown : (items : List Told) (x y : Told) → items ≡ x ∷ [] → Contains items y → x ≡ y
-shown items x y is there = sole x y (subst (λ (l : List Told). Contains l y) is there)
+shown : (items : List Entry) (x y : Entry) → items ≡ x ∷ [] → Contains items y → x ≡ y
+shown items x y is there = sole x y (subst (λ (l : List Entry). Contains l y) is there)
 
-shows : (items : List Told) (x : Told) → items ≡ x ∷ [] → Contains items x
-shows items x is = subst (λ (l : List Told). Contains l x) (sym is) (0, omega arith, refl)
+shows : (items : List Entry) (x : Entry) → items ≡ x ∷ [] → Contains items x
+shows items x is = subst (λ (l : List Entry). Contains l x) (sym is) (0, omega arith, refl)
 
 pub returns-clause-two_messages : goal.returns-clause-two_messages
 returns-clause-two_messages c a b one other never =
@@ -36,8 +36,8 @@ returns-clause-the_same_message c a b one other e f in_one in_other same =
 pub returns-clause-two_names : goal.returns-clause-two_names
 returns-clause-two_names c a b one other e f in_one in_other same =
     let first : 1 ≡ e.name.seq =
-    ap (λ (it : Told). it.name.seq) (shown a.entries.items _ e one in_one) in
+    ap (λ (it : Entry). it.name.seq) (shown a.entries.items _ e one in_one) in
     let second : 2 ≡ f.name.seq =
-    ap (λ (it : Told). it.name.seq) (shown b.entries.items _ f other in_other) in
+    ap (λ (it : Entry). it.name.seq) (shown b.entries.items _ f other in_other) in
     let both : e.name.seq ≡ f.name.seq = ap (λ (x : Label). x.seq) same in
     absurd (omega (arith, first, second, both))

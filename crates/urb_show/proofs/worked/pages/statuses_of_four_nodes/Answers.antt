@@ -1,8 +1,8 @@
 -- What a new group tells of its node 1.
 use Rattle.std.proofs.Common.{List, None, Some, [], arith, length, refl, suc, zero, ℕ, ◌∷◌, ◌≡◌}
 use Rattle.urb_group.specs.GroupViews.{Shows, view_of}
-use Rattle.urb_group.specs.World.{World, started, stored}
-use Rattle.urb_group.specs.internal.Examples.{limits}
+use Rattle.urb_world.specs.World.{World, started, stored}
+use Rattle.urb_world.specs.internal.Examples.{limits}
 use Rattle.urb_names.specs.Names.{name}
 use Rattle.urb_node.specs.NodeViews.{ShowsNode, no_view}
 use Rattle.urb_node.specs.Part.{opened_node}

@@ -1,9 +1,9 @@
 -- A new group has delivered nothing, and no world is shown by a group that shows none.
 use Rattle.std.proofs.Common.{List, [], arith, length, refl, suc, zero, ℕ, ◌∷◌, ◌≡◌}
 use Rattle.urb_group.specs.GroupViews.{Shows, view_of}
-use Rattle.urb_group.specs.Step.{run}
-use Rattle.urb_group.specs.World.{World, started, stored}
-use Rattle.urb_group.specs.internal.Examples.{limits}
+use Rattle.urb_world.specs.Step.{run}
+use Rattle.urb_world.specs.World.{World, started, stored}
+use Rattle.urb_world.specs.internal.Examples.{limits}
 use Rattle.urb_names.specs.Names.{name}
 use Rattle.urb_node.specs.NodeViews.{ShowsNode, no_view}
 use Rattle.urb_node.specs.Part.{opened_node}

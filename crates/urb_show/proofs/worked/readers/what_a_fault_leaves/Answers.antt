@@ -1,8 +1,8 @@
 -- A read without memory takes lists or doesn't.
 use Rattle.std.proofs.Common.{List, [], ap, arith, inl, inr, length, refl, ⊎_elim, ◌∷◌, ◌≡◌}
 use Rattle.urb_group.specs.GroupViews.{Shows}
-use Rattle.urb_group.specs.Step.{Tick}
-use Rattle.urb_group.specs.World.{World, stored}
+use Rattle.urb_world.specs.Step.{Tick}
+use Rattle.urb_world.specs.World.{World, stored}
 use Rattle.urb_names.specs.Names.{name}
 use Rattle.urb_show.specs.Lists.{Agree}
 use Rattle.urb_show.specs.Readers.{ReaderView}

@@ -1,6 +1,6 @@
 -- What a token can't tell.
 use Rattle.std.proofs.Common.{List, [], ⊎_elim, ◌∷◌, ◌≡◌}
-use Rattle.urb_group.specs.Step.{Tick}
+use Rattle.urb_world.specs.Step.{Tick}
 use Rattle.urb_show.specs.Lists.{Begins, Lists}
 use Rattle.urb_show.specs.internal.Examples.{told}
 use Rattle.urb_show.proofs.worked.readers.what_a_token_tells.Goals as goal

@@ -1,9 +1,9 @@
 -- A crash of a new group is a step, and a delivery without its message is none.
 use Rattle.std.proofs.Common.{Bool, List, [], ap, arith, false, length, ne_eqb, refl, subst, sym}
 use Rattle.std.proofs.Common.{true, zero, ℕ, ◌∷◌, ◌≡◌}
-use Rattle.urb_group.specs.Step.{Commit, Crash, Tick, step}
-use Rattle.urb_group.specs.World.{World, started, updated}
-use Rattle.urb_group.specs.internal.Examples.{limits}
+use Rattle.urb_world.specs.Step.{Commit, Crash, Tick, step}
+use Rattle.urb_world.specs.World.{World, started, updated}
+use Rattle.urb_world.specs.internal.Examples.{limits}
 use Rattle.urb_names.specs.LabelsAndContents.{Content, Label}
 use Rattle.urb_names.specs.Names.{name}
 use Rattle.urb_show.specs.Service.{Does, Join, Node, Service}

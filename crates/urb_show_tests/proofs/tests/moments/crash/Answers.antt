@@ -1,5 +1,5 @@
 use Rattle.std.proofs.Common.{length, rules, ◌-◌, ◌<◌, ◌^◌, ◌∙◌, ◌≡◌}
-use Rattle.urb_group.specs.Step.{Crash}
+use Rattle.urb_world.specs.Step.{Crash}
 use Rattle.urb_node.specs.Replies.{WentDown}
 use Rattle.urb_show.specs.Pasts.{IsToldAt}
 use Rattle.urb_show_tests.proofs.tests.moments.crash.Goals as goal

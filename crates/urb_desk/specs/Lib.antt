@@ -1,0 +1,4 @@
+pub mod ClientDesks
+pub mod ClientLimits
+pub mod Desks
+pub mod internal

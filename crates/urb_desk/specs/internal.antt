@@ -1,0 +1,4 @@
+pub mod Desks
+pub mod IdleTimes
+pub mod Sends
+pub mod DeskExamples

@@ -1,0 +1,359 @@
+//! The desk of a running node: it passes requests to the node's worker, and does reads itself.
+
+ghost use Rattle.std.specs.Prelude.{◌≡◌, ◌⊎◌, ◌≤◌, ◌↔◌, ◌-◌, [], IfOk, IsTrue, MatchOption, OnErr};
+ghost use Rattle.std.specs.Prelude.{MatchResult, length};
+ghost use Rattle.urb_client.specs.declared.format.TheConstants.{MOST_ENTRIES};
+ghost use Rattle.urb_client.specs.Requests.{asked_by};
+ghost use Rattle.urb_client.specs.Responses.{said_by};
+ghost use Rattle.urb_show.specs.Lists.{list_at};
+ghost use Rattle.urb_show.specs.Pages.{IsPageOf};
+ghost use Rattle.urb_desk.specs.Desks.{IsJobOf, LearnsTold, Looks, Reads, Sees, Tells, Works};
+ghost use Rattle.urb_desk.specs.Desks.{control_job, gone, told_of};
+ghost use mathlib.Core.List.{IsPrefix};
+ghost use Rattle.urb_desk.specs.internal.Desks.{IsWork};
+ghost use Rattle.urb_turn.specs.Loans.{Follows};
+ghost use Rattle.urb_turn.specs.Settlings.{told_in};
+
+use crate::NodeService;
+use crate::desk_queue::DeskQueue;
+use crate::node_service::DeskService;
+use crate::responses::{down_response, response_to_read, response_to_turn};
+use crate::worker_gone::WorkerGone;
+use std::alloc::Global;
+use std::marker::Model;
+use std::sync::Wait;
+use std::time::{Clock, Duration, Instant};
+use urb_client::{Control, Desk, Request, Response};
+use urb_names::{NoMemory, NodeId};
+use urb_show::{HouseName, Moment, Page, ReadFault, ReadPosition, Told};
+use urb_turn::{Finished, Job, copy_moment};
+
+/// Answers the requests of a client at one node. A desk keeps the position of what its session has
+/// seen and learnt, and borrows a reader for each read. It learns what the worker published. So a
+/// client that got a response about a message can read the message. Each session has a desk of its
+/// own.
+#[derive(Drop)]
+pub struct NodeDesk<'a, K: HouseName, R: Wait + Clock> {
+    rt: &'a R,
+    alloc: Global,
+    node: NodeId,
+    // The way to the node's worker. Only what a request asks at the node goes through it.
+    queue: DeskQueue<'a, K>,
+    service: DeskService<'a, K>,
+    position: ReadPosition<K>,
+    // The latest moment of the House that it has seen.
+    seen: Option<Moment<K>>,
+}
+
+impl<'a, K: HouseName, R: Wait + Clock> Model for NodeDesk<'a, K, R> {
+    ghost use Rattle.std.specs.Prelude.{◌≡◌, ◌≤◌, length};
+    ghost use Rattle.urb_desk.specs.Desks.{DeskView};
+    ghost use Rattle.urb_turn.specs.Loans.{events_until};
+
+    ghost Value = { DeskView };
+
+    ghost view = { λ d. record {
+      node = d.node;
+      known = d.position;
+      past = events_until d.seen;
+    } };
+
+    ghost invariant = { λ d. (d.node ≤ length K.base) × (d.queue ≡ d.node) };
+}
+
+impl<'a, K: HouseName, R: Wait + Clock> NodeDesk<'a, K, R> {
+    /// The desk of a node, for a session that begins at this position and has seen no event. The
+    /// node's worker is at the other end of the service's queue.
+    pub fn new(
+        rt: &'a R,
+        alloc: Global,
+        node: NodeId,
+        service: NodeService<'a, K>,
+        position: ReadPosition<K>,
+    ) -> NodeDesk<'a, K, R>
+        requires { node ≤ length K.base }
+        ensures { result ≡ record { node = node; known = position; past = [] } }
+    {
+        let NodeService {
+            queue,
+            places,
+            readers,
+            bell,
+            in_flight,
+            stop,
+        } = service;
+        let seen = None;
+        NodeDesk {
+            rt,
+            alloc,
+            node,
+            queue: DeskQueue::new(node, queue, places),
+            service: DeskService {
+                readers,
+                bell,
+                in_flight,
+                stop,
+            },
+            position,
+            seen,
+        }
+    }
+
+    /// A desk of the same node, for another session that begins at the same position and has seen
+    /// the same events.
+    pub fn copy(&self) -> NodeDesk<'a, K, R>
+        ensures { result ≡ self.now }
+    {
+        NodeDesk {
+            rt: self.rt,
+            alloc: self.alloc,
+            node: self.node,
+            queue: self.queue.copy(),
+            service: self.service.copy(),
+            position: self.position.copy(),
+            seen: copy_moment(&self.seen),
+        }
+    }
+
+    // Learns what a turn published, if anything, and the moment when it ended, if there was one.
+    fn learn(&mut self, lists: Option<Told<K>>, end: Option<Moment<K>>)
+        ensures node { self.new.node ≡ self.old.node }
+        ensures past { MatchOption end (self.new.past ≡ self.old.past) (λ m. self.new.past ≡ m) }
+        ensures learnt { LearnsTold lists self.old.known self.new.known }
+    {
+        if let Some(end) = end {
+            self.seen = Some(end);
+        }
+        match lists {
+            Some(lists) => self.position.learn(lists),
+            None => {}
+        }
+    }
+
+    // The response for a turn, after the desk has learnt what the turn published, and its end.
+    #[tactic(auto, using(crate::proofs::DeskEvents::sees))]
+    fn respond_to_turn(&mut self, finished: Finished<K>) -> Response
+        requires { Follows self.old.past finished.ran finished.loans }
+        ensures node { self.new.node ≡ self.old.node }
+        ensures learnt { LearnsTold (told_in finished.settling) self.old.known self.new.known }
+        ensures said { said_by result ≡ told_of finished.reply finished.status }
+        ensures sees { Sees self.old.past finished.ran finished.loans self.new.past }
+    {
+        let end = finished.end();
+        let (reply, status, lists) = finished.into_parts();
+        self.learn(lists, end);
+        response_to_turn(&reply, status)
+    }
+
+    // The response for a turn, after the reader has learnt what it published. It is the refusal
+    // `Down` only if the turn is of another job, or doesn't follow what the desk has seen.
+    fn respond_if_asked(&mut self, request: &Request, finished: Finished<K>) -> Response
+        ensures node { self.new.node ≡ self.old.node }
+        ensures works { Works K.origin self.old (asked_by request.now) (said_by result) self.new }
+        ensures told { IsJobOf self.old.node (asked_by request.now) finished.job
+            → Follows self.old.past finished.ran finished.loans
+            → said_by result ≡ told_of finished.reply finished.status }
+    {
+        if !is_turn_of(self.node, request, &finished) {
+            return down_response();
+        }
+        if !finished.is_after(&self.seen) {
+            return down_response();
+        }
+        self.respond_to_turn(finished)
+    }
+
+    // Turns the worker's result into the client's response, after the reader has learnt what was
+    // published. If the worker is gone, or the result is of another job or an earlier turn, the
+    // response is the refusal `Down`.
+    fn respond(&mut self, request: &Request, came: Result<Finished<K>, WorkerGone>) -> Response
+        ensures node { self.new.node ≡ self.old.node }
+        ensures works { Works K.origin self.old (asked_by request.now) (said_by result) self.new }
+        // It is the refusal `Down` only if the worker is gone, or a turn of another job came, or one
+        // that doesn't follow what the desk has seen.
+        ensures told { MatchResult came
+            (λ finished. IsJobOf self.old.node (asked_by request.now) finished.job
+            → Follows self.old.past finished.ran finished.loans
+            → said_by result ≡ told_of finished.reply finished.status)
+            (λ witness. said_by result ≡ gone) }
+    {
+        match came {
+            Ok(finished) => self.respond_if_asked(request, finished),
+            Err(_) => down_response(),
+        }
+    }
+
+    // Has the worker do what a request asks, and learns what the worker published.
+    fn work(&mut self, request: &Request) -> Result<Response, NoMemory>
+        requires { IsWork (asked_by request.now) }
+        ensures answered { IfOk result (λ response. (self.new.node ≡ self.old.node)
+            × Works K.origin self.old (asked_by request.now) (said_by response) self.new
+            × Tells K.origin self.old.past self.new.past self.old.node (asked_by request.now)
+            (said_by response)
+            × IsPrefix self.old.past self.new.past) }
+        ensures refused { OnErr result (self.new ≡ self.old) }
+    {
+        let came = self.queue.ask(self.rt, self.alloc, request)?;
+        Ok(self.respond(request, came))
+    }
+
+    // The session's position, which also knows the latest moment that the desk has seen.
+    fn position_now(&self) -> ReadPosition<K>
+        ensures same { result ≡ record self.now.known { past = result.past } }
+        ensures known { IsPrefix self.now.known.past result.past }
+        ensures seen { IsPrefix self.now.past result.past }
+    {
+        let mut position = self.position.copy();
+        if let Some(seen) = &self.seen {
+            position.learn_moment(seen);
+        }
+        position
+    }
+
+    // Takes the published lists, at a place of the history behind all that the desk has seen. It
+    // returns the node's page.
+    fn look(&mut self, place: u32, max: u8) -> Result<Page, ReadFault>
+        requires { 1 ≤ place }
+        ensures page { IfOk result (λ page. (self.new.node ≡ self.old.node)
+            × Looks K.origin self.old self.new
+            × IsPageOf (list_at self.new.known.seen (self.old.node - 1)) place max page) }
+        ensures refused { OnErr result (self.new ≡ self.old) }
+    {
+        let (rt, alloc, node, readers) = (self.rt, self.alloc, self.node, self.service.readers);
+        let mut position = self.position_now();
+        let page = readers.read(rt, alloc, &mut position, node, place, max)?;
+        self.seen = Some(position.moment().copy());
+        self.position = position;
+        Ok(page)
+    }
+
+    // Reads the node's published list.
+    fn read(&mut self, place: u32, max: u8) -> Result<Response, NoMemory>
+        requires { (1 ≤ place) × (max ≤ MOST_ENTRIES) }
+        ensures answered { IfOk result (λ response. (self.new.node ≡ self.old.node)
+            × Reads K.origin self.old place max (said_by response) self.new) }
+        ensures refused { OnErr result ((self.new ≡ self.old)
+            ⊎ ((self.new.node ≡ self.old.node) × Looks K.origin self.old self.new)) }
+    {
+        match self.look(place, max) {
+            Ok(page) => response_to_read(self.alloc, page.entries),
+            Err(ReadFault::NoMemory(refused)) => Err(refused),
+            Err(ReadFault::Gone) => Ok(down_response()),
+        }
+    }
+
+    // Whether the node's log has an entry at this place.
+    fn has_entry(&self, place: u32) -> bool {
+        self.service
+            .readers
+            .has_entry(self.rt, self.alloc, self.node, place)
+    }
+
+    // Waits until the node's log has an entry at this place, for at most `millis` milliseconds, or
+    // until the stop is set. It holds no lock and no reader while it sleeps. A wake-up without such
+    // an entry doesn't end the wait. If the clock can't be read, it doesn't wait.
+    fn await_entry(&self, place: u32, millis: u16) {
+        if self.has_entry(place) {
+            return;
+        }
+        let Ok(began) = Instant::now(self.rt) else {
+            return;
+        };
+        let most = Duration::from_millis(u64::from(millis));
+        let bell = self.service.bell;
+        bell.begin_waiting();
+        for _ in self.rt.forever() {
+            let passed = bell.passed();
+            if self.has_entry(place) || self.service.stop.is_set() {
+                break;
+            }
+            let waited = began.elapsed(self.rt).unwrap_or(most);
+            match most.checked_sub(waited) {
+                Some(rest) if !rest.is_zero() => bell.sleep(self.rt, passed, rest),
+                _ => break,
+            }
+        }
+        bell.end_waiting();
+    }
+
+    // Reads the node's published list once it has an entry at this place, or at the end of the
+    // time.
+    fn wait(&mut self, place: u32, max: u8, millis: u16) -> Result<Response, NoMemory>
+        requires { (1 ≤ place) × (max ≤ MOST_ENTRIES) }
+        ensures answered { IfOk result (λ response. (self.new.node ≡ self.old.node)
+            × Reads K.origin self.old place max (said_by response) self.new) }
+        ensures refused { OnErr result ((self.new ≡ self.old)
+            ⊎ ((self.new.node ≡ self.old.node) × Looks K.origin self.old self.new)) }
+    {
+        self.await_entry(place, millis);
+        self.read(place, max)
+    }
+}
+
+impl<'a, K: HouseName, R: Wait + Clock> Desk for NodeDesk<'a, K, R> {
+    type Alloc = Global;
+
+    ghost use Rattle.urb_desk.specs.Desks.{AnswersAt, RefusedAt};
+
+    ghost answers = { AnswersAt K.origin };
+
+    ghost refuses = { RefusedAt K.origin };
+
+    fn answer(&mut self, request: &Request) -> Result<Response, NoMemory> {
+        match request {
+            Request::Read { place, max } => self.read(*place, *max),
+            Request::Wait { place, max, millis } => self.wait(*place, *max, *millis),
+            Request::Submit { .. } => {
+                self.service.in_flight.await_calm(self.rt);
+                self.work(request)
+            }
+            Request::Ask(_) => self.work(request),
+        }
+    }
+}
+
+// Whether a turn did what a request asks at a node.
+fn is_turn_of<K: HouseName>(node: NodeId, request: &Request, finished: &Finished<K>) -> bool
+    ensures each { IsJobOf node (asked_by request.now) finished.now.job → IsTrue result }
+    ensures only { IsTrue result → IsJobOf node (asked_by request.now) finished.now.job }
+{
+    is_job_of(node, request, finished.job())
+}
+
+// Whether a job is what a request asks at a node.
+fn is_job_of(node: NodeId, request: &Request, job: &Job) -> bool
+    ensures { IsTrue result ↔ IsJobOf node (asked_by request.now) job.now }
+{
+    match (request, job) {
+        (
+            Request::Submit {
+                client,
+                number,
+                payload,
+            },
+            Job::Submit {
+                node: at,
+                client: of,
+                number: ranked,
+                payload: bytes,
+            },
+        ) => *at == node
+            && *of == *client
+            && *ranked == *number
+            && bytes.as_slice() == payload.as_slice(),
+        (Request::Ask(control), _) => is_control_job(node, *control, job),
+        _ => false,
+    }
+}
+
+// Whether a job is what a request without fields asks at a node.
+fn is_control_job(node: NodeId, control: Control, job: &Job) -> bool
+    ensures { IsTrue result ↔ (job.now ≡ control_job node control) }
+{
+    match (control, job) {
+        (Control::Status, Job::Status(at)) => *at == node,
+        (Control::Crash, Job::Crash(at)) => *at == node,
+        (Control::Restart, Job::Restart(at)) => *at == node,
+        _ => false,
+    }
+}

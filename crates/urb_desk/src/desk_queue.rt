@@ -1,0 +1,166 @@
+//! The way from a node's desks to its worker: only what a request asks goes through it.
+
+ghost use Rattle.std.specs.Prelude.{◌≡◌, IfOk};
+ghost use Rattle.urb_client.specs.Requests.{asked_by};
+ghost use Rattle.urb_desk.specs.Desks.{IsJobOf, control_job};
+ghost use Rattle.urb_desk.specs.internal.Desks.{IsWork};
+
+use crate::TicketPlaces;
+use crate::worker_gone::{WorkerGone, after_answer, after_send};
+use crossbeam_channel::Sender;
+use std::alloc::Global;
+use std::marker::Model;
+use std::sync::Wait;
+use urb_client::{Control, Request};
+use urb_link::Ticket;
+use urb_names::{NoMemory, NodeId};
+use urb_show::HouseName;
+use urb_turn::{Finished, Job};
+
+/// A job with the request that asks it at a node.
+#[derive(Drop)]
+struct DeskJob<'r> {
+    node: NodeId,
+    request: &'r Request,
+    job: Job,
+    ghost asked: { ∥ IsJobOf node (asked_by request.now) job ∥₁ },
+}
+
+impl<'r> DeskJob<'r> {
+    // The job at this node that does what a request asks.
+    fn of(alloc: Global, node: NodeId, request: &'r Request) -> Result<DeskJob<'r>, NoMemory>
+        requires { IsWork (asked_by request.now) }
+        ensures { IfOk result (λ made. (made.node ≡ node) × (made.request.now ≡ request.now)) }
+    {
+        let job = job_of(alloc, node, request)?;
+        Ok(DeskJob { node, request, job })
+    }
+
+    // The ticket for the job. Its result goes to `answer`.
+    fn into_ticket<K: HouseName>(self, answer: Sender<Finished<K>>) -> Ticket<K>
+        ensures { ∥ IsJobOf self.entry.node (asked_by self.entry.request.now) result.job ∥₁ }
+    {
+        let DeskJob {
+            node: _,
+            request: _,
+            job,
+        } = self;
+        Ticket {
+            job,
+            answer: Some(answer),
+        }
+    }
+}
+
+/// The queue of a node's worker, as its desks have it. Nothing goes into it but what a request asks
+/// at this node.
+#[derive(Drop)]
+pub(crate) struct DeskQueue<'a, K: HouseName> {
+    node: NodeId,
+    sender: &'a Sender<Ticket<K>>,
+    places: &'a TicketPlaces,
+}
+
+impl<'a, K: HouseName> Model for DeskQueue<'a, K> {
+    ghost use Rattle.std.specs.Prelude.{ℕ};
+
+    ghost Value = { ℕ };
+
+    ghost view = { λ queue. queue.node };
+}
+
+impl<'a, K: HouseName> DeskQueue<'a, K> {
+    /// The way to the worker of this node.
+    pub(crate) fn new(
+        node: NodeId,
+        sender: &'a Sender<Ticket<K>>,
+        places: &'a TicketPlaces,
+    ) -> DeskQueue<'a, K>
+        ensures { result ≡ node }
+    {
+        DeskQueue {
+            node,
+            sender,
+            places,
+        }
+    }
+
+    /// The same, for another desk of the node.
+    pub(crate) fn copy(&self) -> DeskQueue<'a, K>
+        ensures { result ≡ self.now }
+    {
+        DeskQueue {
+            node: self.node,
+            sender: self.sender,
+            places: self.places,
+        }
+    }
+
+    // Sends the worker what was asked, and returns the result, or the witness that the worker is
+    // gone. Before that it waits for a place for the ticket.
+    fn send<R: Wait>(
+        &self,
+        rt: &R,
+        alloc: Global,
+        asked: DeskJob<'_>,
+    ) -> Result<Result<Finished<K>, WorkerGone>, NoMemory>
+        requires { asked.node ≡ self.now }
+    {
+        let (to, from) = crossbeam_channel::bounded(alloc, 1)?;
+        let ticket = asked.into_ticket(to);
+        let place = self.places.take(rt);
+        let came = match after_send(self.sender.send(rt, ticket)) {
+            Ok(Ok(())) => Ok(after_answer(from.recv(rt))),
+            Ok(Err(gone)) => Ok(Err(gone)),
+            Err(refused) => Err(refused),
+        };
+        place.give_back(rt);
+        came
+    }
+
+    /// Sends the worker what a request asks at the node, and returns the result, or the witness that
+    /// the worker is gone. It waits for a place for the ticket, and for the result.
+    pub(crate) fn ask<R: Wait>(
+        &self,
+        rt: &R,
+        alloc: Global,
+        request: &Request,
+    ) -> Result<Result<Finished<K>, WorkerGone>, NoMemory>
+        requires { IsWork (asked_by request.now) }
+    {
+        let asked = DeskJob::of(alloc, self.node, request)?;
+        self.send(rt, alloc, asked)
+    }
+}
+
+// The job at a node that does what a request asks.
+fn job_of(alloc: Global, node: NodeId, request: &Request) -> Result<Job, NoMemory>
+    requires { IsWork (asked_by request.now) }
+    ensures { IfOk result (λ job. IsJobOf node (asked_by request.now) job) }
+{
+    match request {
+        Request::Read { .. } | Request::Wait { .. } => unreachable!(),
+        Request::Submit {
+            client,
+            number,
+            payload,
+        } => Ok(Job::Submit {
+            node,
+            client: *client,
+            number: *number,
+            payload: payload.share(alloc)?,
+        }),
+        Request::Ask(control) => Ok(control_job(node, *control)),
+    }
+}
+
+// The job at a node that does what a request without fields asks.
+fn control_job(node: NodeId, control: Control) -> Job
+    ensures { result ≡ control_job node control }
+{
+    match control {
+        Control::Status => Job::Status(node),
+        Control::Crash => Job::Crash(node),
+        Control::Restart => Job::Restart(node),
+    }
+}

@@ -1,0 +1,5 @@
+//! Worked examples of the definitions: turns, stores, loans and desks, and what none of them can be.
+
+pub mod desks;
+pub mod requests;
+pub mod responses;

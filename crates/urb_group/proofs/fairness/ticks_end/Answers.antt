@@ -1,6 +1,0 @@
--- Ticks end after three rounds.
-use Rattle.urb_group.proofs.rounds.SilentTicks.{three-rounds}
-use Rattle.urb_group.proofs.fairness.ticks_end.Goals as goal
-
-pub returns : goal.returns
-returns c = three-rounds

@@ -1,6 +1,0 @@
--- Two fair rounds deliver.
-use Rattle.urb_group.proofs.rounds.FairRounds.{two-rounds}
-use Rattle.urb_group.proofs.fairness.two_fair_rounds_deliver.Goals as goal
-
-pub returns : goal.returns
-returns c = two-rounds

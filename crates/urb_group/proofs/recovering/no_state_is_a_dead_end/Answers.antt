@@ -1,6 +1,0 @@
--- All nodes come back, and two rounds deliver everything.
-use Rattle.urb_group.proofs.recovery.FullDelivery.{can-deliver}
-use Rattle.urb_group.proofs.recovering.no_state_is_a_dead_end.Goals as goal
-
-pub returns : goal.returns
-returns c = can-deliver

@@ -1,7 +1,0 @@
--- The receipt of a node's own message.
-use Rattle.std.proofs.Common.{refl}
-use Rattle.urb_group.specs.internal.Scripts.{message}
-use Rattle.urb_group.proofs.worked.recovery_words.receipts_and_resends.Goals as goal
-
-pub returns-clause-its_own : goal.returns-clause-its_own
-returns-clause-its_own c = (message 7 1 "", refl, (refl, refl))

@@ -1,0 +1,1 @@
+-- Loops that wait for a stop, and a round of ticks. All else here is proved without lemmas.

@@ -1,0 +1,4 @@
+pub mod Links
+pub mod Doors
+pub mod Backlogs
+pub mod internal

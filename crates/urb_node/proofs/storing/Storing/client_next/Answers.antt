@@ -1,0 +1,20 @@
+use Rattle.std.proofs.Common.{ap, subst, ◌∙◌, ℕ}
+use Rattle.urb_names.specs.Pairs.{next_number, own}
+use Rattle.urb_node.proofs.QueryAnswers.{next_says}
+use Rattle.urb_node.specs.CallEffects.{TellsNext}
+use Rattle.urb_node.specs.LayerFields.{memory_of}
+use Rattle.urb_node.specs.NodeMemories.{Holding, ShowsStoring}
+use Rattle.urb_node.specs.Part.{Storing}
+use Rattle.urb_node.proofs.storing.Storing.client_next.Goals as goal
+
+pub returns-clause-stored : goal.returns-clause-stored
+returns-clause-stored g c =
+    let held = c.self.inside.held in
+    subst (λ (h : Holding). TellsNext (ShowsStoring h) c.args.client c.client_next.result)
+    c.self.view_is
+    (next_says (Storing c.self.inside.entry c.self.inside.cause) (memory_of held) c.args.client
+    c.client_next.result
+    (c.client_next.ensures.value
+    ∙ ap (λ (p : ℕ). next_number c.args.client (own p held.pending.pairs))
+    c.self.invariant.held.pending_node)
+    c.client_next.ensures.rising)

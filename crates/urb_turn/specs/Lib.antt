@@ -1,0 +1,14 @@
+pub mod Jobs
+pub mod Counting
+pub mod Settlings
+pub mod Loans
+pub mod Views
+pub mod Stages
+pub mod Turns
+pub mod Changes
+pub mod NodeStores
+pub mod KilledStores
+pub mod LastLoans
+pub mod WholeTurns
+pub mod NodeFeeds
+pub mod internal

@@ -1,0 +1,7 @@
+//! Worked examples of the definitions: turns, stores, loans and desks, and what none of them can be.
+
+pub mod node_stores;
+pub mod stages;
+pub mod turn_ends;
+pub mod turns;
+pub mod whole_turns;

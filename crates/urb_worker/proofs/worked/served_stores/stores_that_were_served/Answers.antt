@@ -1,0 +1,74 @@
+-- No job lets a store forget how often it has failed.
+use Rattle.std.proofs.Common.{Bool, List, [], arith, false, subst, sym, true, ℕ, ◌≡◌, ◌≤◌}
+use Rattle.std.proofs.Math.Logic.{∥∥₁_elim}
+use Rattle.std.proofs.Props.{props}
+use Rattle.urb_group.specs.GroupViews.{GroupView}
+use Rattle.urb_show.specs.internal.ReaderExamples.{shows_none}
+use Rattle.urb_stable.specs.MemoryStores.{Memory, empty_memory}
+use Rattle.urb_worker.specs.Acts.{Act}
+use Rattle.urb_turn.specs.Jobs.{runs_at}
+use Rattle.urb_worker.specs.ServedStores.{IsLeftOf, Serves}
+use Rattle.urb_worker.specs.ServedStores.Serves.{Continues, Rests}
+use Rattle.urb_turn.specs.Turns.{Stores}
+use Rattle.urb_turn.specs.Views.{FinishedView}
+use Rattle.urb_turn.specs.WholeTurns.{Does}
+use Rattle.urb_turn.specs.declared.job.Job.{Job}
+use Rattle.urb_turn.specs.declared.turn_stages.Stage.TheVariants as stage
+use Rattle.urb_turn.specs.declared.turn_stages.Stage.{Stage}
+use Rattle.urb_turn.specs.internal.TurnExamples.{failed_once, holding, memory}
+use Rattle.urb_worker.proofs.worked.served_stores.stores_that_were_served.Goals as goal
+
+-- a store that stays has failed as often
+same : (before after : Memory) → after ≡ before → before.failures ≤ after.failures
+same before after is =
+    subst (λ (it : Memory). before.failures ≤ it.failures) (sym is) (omega arith)
+
+-- the store's part never lowers the number of its failures
+part-grows : (before after : Memory) (at new : Stage) → Stores memory before at after new
+    → before.failures ≤ after.failures
+part-grows before after (stage.Drafted draft) new (r, of, keeps, is) = keeps.counts.grows
+part-grows before after stage.Retrieving new (r, gives, is) = gives.counts.grows
+part-grows before after (stage.Kept receipt) new h = same before after h.0
+part-grows before after (stage.Doubtful doubt) new h = same before after h.0
+part-grows before after (stage.Retrieved image) new h = same before after h.0
+part-grows before after (stage.Unread fault) new h = same before after h.0
+part-grows before after stage.Asking new h = same before after h.0
+part-grows before after (stage.Answered reply) new h = same before after h.0
+
+-- so does a job
+job-grows : (opened : GroupView) (n : ℕ) (runs : Bool) (job : Job) (before after : Memory)
+    (done : FinishedView) → Does memory opened n runs job before after done
+    → before.failures ≤ after.failures
+job-grows opened n true job before after done h =
+    part-grows before after h.turn.at h.turn.new h.turn.stores
+job-grows opened n false job before after done h = same before after h.0
+
+-- and so do any number of jobs
+grows : (opened : GroupView) (n : ℕ) (first last : Memory) (start acts : List Act)
+    → Serves memory opened n first last start acts → first.failures ≤ last.failures
+grows opened n first last start acts (Rests _ _) = omega arith
+grows opened n first last start acts (Continues _ before _ _ old _ job serves works) =
+    let here = grows opened n first before start old serves in
+    let next = job-grows opened n (runs_at n job) job before last works.done works.does in
+    omega (arith, here, next)
+
+-- a failure is not forgotten
+kept : (n : ℕ) → IsLeftOf memory shows_none n failed_once empty_memory → ⊥
+kept n left = ∥∥₁_elim left (hlevel props) (λ served. fewer (grows shows_none n failed_once
+    empty_memory [] served.0 served.1))
+  where
+    fewer : 1 ≤ 0 → ⊥
+    fewer e = omega (arith, e)
+
+pub returns-clause-by_no_job : goal.returns-clause-by_no_job
+returns-clause-by_no_job c =
+    (∣ ([], Rests empty_memory []) ∣₁, (∣ ([], Rests holding []) ∣₁, tt))
+
+pub returns-clause-a_failure_that_is_forgotten : goal.returns-clause-a_failure_that_is_forgotten
+returns-clause-a_failure_that_is_forgotten c h = kept 1 h.0
+
+pub returns-clause-a_second_one_that_is_forgotten : goal.returns-clause-a_second_one_that_is_forgotten
+returns-clause-a_second_one_that_is_forgotten c h = kept 2 h.1.0
+
+pub returns-clause-a_store_too_many : goal.returns-clause-a_store_too_many
+returns-clause-a_store_too_many c h = h.1

@@ -1,0 +1,13 @@
+-- No event delivers nothing.
+use Rattle.std.proofs.Common.{List, [], refl, ◌∷◌, ◌≡◌}
+use Rattle.urb_names.specs.Names.{name}
+use Rattle.urb_world.specs.Step.{run}
+use Rattle.urb_world.proofs.worked.recovery_words.events_that_go.Goals as goal
+
+none-some : {A : Type 0} (x : A) (xs : List A) → [] ≡ x ∷ xs → ⊥
+none-some x xs e = cc
+
+pub returns-clause-not_delivered : goal.returns-clause-not_delivered
+unfolding run
+returns-clause-not_delivered c has =
+    none-some (name 1 1) [] ((has.delivered 1 refl).names 1 refl)

@@ -1,0 +1,4 @@
+pub mod Examples
+pub mod Scripts
+pub mod RecoveryExamples
+pub mod RoundExamples
