@@ -20,7 +20,7 @@ TOP = Path(__file__).resolve().parent.parent
 SOURCES = (
     "crates/urb_names/src/limits.rt",
     "crates/urb_client/src/format.rt",
-    "crates/urb_cli/src/limits.rt",
+    "crates/urb_options/src/limits.rt",
 )
 REFUSALS = "crates/urb_names/src/refusal.rt"
 TABLES = "crates/urb_sqlite/src/sql.rt"

@@ -34,6 +34,7 @@ WITH_SENTENCES = (
     "urb_link",
     "urb_desk",
     "urb_worker",
+    "urb_options",
     "urb_cli",
     "urb_daemon",
 )

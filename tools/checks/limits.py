@@ -104,7 +104,7 @@ class Statement:
 
 LOWEST = ("urb_names", "src/limits.rt")
 FORMAT = ("urb_client", "src/format.rt")
-COMMANDS = ("urb_cli", "src/limits.rt")
+COMMANDS = ("urb_options", "src/limits.rt")
 STATEMENTS = (
     Statement(
         r"payload has (?:more than|over|0 to|at most) (16,\d+) bytes", *LOWEST, "MAX_PAYLOAD"

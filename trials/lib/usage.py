@@ -14,7 +14,7 @@ from trials import TOP
 Options = Mapping[str, frozenset[str]]
 
 GRAMMAR = ("grammar.rt", "stream_grammar.rt")
-SOURCES = TOP / "crates" / "urb_cli" / "src" / "command_line"
+SOURCES = TOP / "crates" / "urb_options" / "src"
 PACKAGE = TOP / "contrib" / "package"
 PAGE = PACKAGE / "urbd.1"
 COMPLETIONS = PACKAGE / "completions"

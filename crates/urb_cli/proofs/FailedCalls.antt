@@ -7,7 +7,7 @@ use Rattle.urb_client.specs.Responses.{Said}
 use Rattle.urb_cli.specs.Calls.{Fails, answer_of}
 use Rattle.urb_cli.specs.declared.client.call_fault.CallFault.{CallFault}
 use Rattle.urb_cli.specs.declared.client.call_fault.CallFault.TheVariants.{Broken}
-use Rattle.urb_cli.specs.declared.faults.Fault.TheVariants.{NoMemory}
+use Rattle.urb_options.specs.declared.faults.Fault.TheVariants.{NoMemory}
 
 -- `count` calls in a row got no response. If the next call gets none either, these are `count` + 1.
 pub gives_up : {S A : Type 0} (calls : S → Asked → Option Said → S → Type 0) (asked : Asked)

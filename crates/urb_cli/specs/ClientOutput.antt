@@ -2,7 +2,8 @@
 use Rattle.std.specs.Prelude.{◌≡◌, ◌⊎◌, ◌+◌, ℕ, ◌==◌, ◌/◌, ◌%◌, nat_lt, List, [], ◌∷◌, ◌++◌, length}
 use Rattle.std.specs.Prelude.{flat_map, Option, Some, None, if◌then◌else◌, codes}
 use Rattle.std.specs.Fmt.{decimal}
-use Rattle.urb_cli.specs.Addresses.{Address, address_text}
+use Rattle.urb_options.specs.Addresses.{Address}
+use Rattle.urb_cli.specs.AddressTexts.{address_text}
 use Rattle.urb_cli.specs.Advice.{explained_refusal}
 use Rattle.urb_client.specs.declared.response.NodeState.{NodeState}
 use Rattle.urb_client.specs.declared.response.NodeState.TheVariants as state

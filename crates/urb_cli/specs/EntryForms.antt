@@ -5,8 +5,8 @@ use Rattle.std.specs.Fmt.{decimal}
 use Rattle.std.specs.Str.{is_utf8}
 use Rattle.urb_names.specs.LabelsAndContents.{Label, Content}
 use Rattle.urb_cli.specs.ClientOutput.{entry_line, hex_byte, hex_payload}
-use Rattle.urb_cli.specs.declared.client.entry_form_kind.EntryForm.{EntryForm}
-use Rattle.urb_cli.specs.declared.client.entry_form_kind.EntryForm.TheVariants.{Text, Hex, Json}
+use Rattle.urb_options.specs.declared.entry_form_kind.EntryForm.{EntryForm}
+use Rattle.urb_options.specs.declared.entry_form_kind.EntryForm.TheVariants.{Text, Hex, Json}
 
 -- a control character begins these bytes of UTF-8: U+0000 to U+001F, or U+007F to U+009F
 abbrev pub begins_with_control : List ℕ → Bool

@@ -1,14 +1,10 @@
-pub mod Addresses
+pub mod AddressTexts
 pub mod Advice
 pub mod Calls
 pub mod ClientOutput
-pub mod CommandLine
-pub mod Doors
 pub mod EntryForms
 pub mod Following
-pub mod OptionRanges
 pub mod Publishing
 pub mod Statuses
 pub mod Streams
-pub mod Tasks
 pub mod internal

@@ -1,20 +1,14 @@
 -- The program's status after a run of a script, a response, or a client's command.
 use Rattle.std.specs.Prelude.{ℕ, Err, Ok, Result, ◌≡◌, ◌⊎◌}
-use Rattle.urb_names.specs.RefusalReports.{detail_of, number_of}
-use Rattle.urb_names.specs.declared.refusal.Refusal.{Refusal}
-use Rattle.urb_names.specs.declared.refusal.Refusal.TheVariants as refusal
-use Rattle.urb_cli.specs.declared.faults.Fault.{Fault}
-use Rattle.urb_cli.specs.declared.faults.Fault.TheVariants as fault
+use Rattle.urb_options.specs.declared.faults.Fault.{Fault}
+use Rattle.urb_options.specs.declared.faults.Fault.TheVariants as fault
 use Rattle.urb_cli.specs.declared.client.call_fault.CallFault.{CallFault}
 use Rattle.urb_cli.specs.declared.client.call_fault.CallFault.TheVariants as call
-use Rattle.urb_cli.specs.declared.command_line.task.Errand.{Errand}
-use Rattle.urb_cli.specs.declared.command_line.task.Errand.TheVariants as errand
-use Rattle.urb_client.specs.declared.response_receiver.ResponseFault.{ResponseFault}
-use Rattle.urb_client.specs.declared.response_receiver.ResponseFault.TheVariants as response
+use Rattle.urb_options.specs.declared.task.Errand.{Errand}
+use Rattle.urb_options.specs.declared.task.Errand.TheVariants as errand
 use Rattle.urb_script.specs.declared.runs.RunEnd.{RunEnd}
 use Rattle.urb_script.specs.declared.runs.RunEnd.TheVariants.{Whole, BadLine}
 use Rattle.urb_script.specs.declared.runs.RunFault.{RunFault}
-use Rattle.urb_script.specs.declared.runs.RunFault.TheVariants.{Read, Write, NoMemory}
 
 -- 0 for a script that is whole, 2 for one with a bad line, 1 for a fault
 abbrev pub status_of : Result RunEnd RunFault → ℕ
@@ -38,23 +32,6 @@ IsErrandsEnd (errand.Read reading) status = IsClientsEnd status
 IsErrandsEnd (errand.Status asking) status = IsClientsEnd status
 IsErrandsEnd (errand.Publish publishing) status = IsClientsEnd status
 IsErrandsEnd (errand.Follow following) status = IsClientsEnd status
-
--- the program's fault for a fault of a run
-abbrev pub fault_of_run : RunFault → Fault
-fault_of_run Read = fault.Read
-fault_of_run Write = fault.Write
-fault_of_run NoMemory = fault.NoMemory
-
--- the program's fault if there is no response
-abbrev pub fault_of_response : ResponseFault → Fault
-fault_of_response response.Read = fault.Read
-fault_of_response response.NoMemory = fault.NoMemory
-fault_of_response response.NoResponse = fault.BadReply
-
--- the program's fault for a refusal at an opening
-abbrev pub fault_of_refusal : Refusal → Fault
-fault_of_refusal refusal.NoMemory = fault.NoMemory
-fault_of_refusal r = fault.Refused (number_of r) (detail_of r)
 
 -- the program's fault if a call of a node has no answer
 abbrev pub fault_of_call : CallFault → Fault

@@ -1,4 +1,3 @@
-pub mod Addresses
-pub mod Doors
 pub mod Following
+pub mod LaterAddresses
 pub mod Publishing

@@ -1,15 +1,14 @@
 //! The commands of a client: how they run, and what they print.
 
+pub(crate) mod address_text;
 pub(crate) mod advice;
 pub(crate) mod call_fault;
 pub(crate) mod caller;
 pub(crate) mod calls;
 pub(crate) mod decision;
 pub(crate) mod entry_form;
-pub(crate) mod entry_form_kind;
 pub(crate) mod follow;
 pub(crate) mod follow_turn;
-pub(crate) mod node_address;
 pub(crate) mod node_caller;
 pub(crate) mod patient_stream;
 pub(crate) mod print;

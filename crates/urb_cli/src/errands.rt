@@ -7,11 +7,10 @@ use crate::client::follow::run_follow;
 use crate::client::publish::run_publish;
 use crate::client::run::{run_read, run_submit};
 use crate::client::status::run_status;
-use crate::command_line::task::Errand;
-use crate::faults::{Fault, report_fault};
 use crate::script::replay;
 use std::net::{Net, TcpListener, TcpStream};
 use std::time::Clock;
+use urb_options::{Errand, Fault, report_fault};
 use urb_script::{RunEnd, RunFault};
 
 /// The status of a script with a bad line.

@@ -9,7 +9,8 @@ mod stream_lines;
 mod streams;
 
 use std::alloc::Global;
-use urb_cli::{Errand, Line, parse_line, read_words, replay, report_script_end};
+use urb_cli::{replay, report_script_end};
+use urb_options::{Errand, Line, parse_line, read_words};
 use urb_terminal::{Shown, Terminal};
 
 /// The status of a command line that asks for a network. No terminal has one.

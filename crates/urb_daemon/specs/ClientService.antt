@@ -1,6 +1,6 @@
 -- The limits of the clients of a group, from its options.
 use Rattle.std.specs.Prelude.{◌≡◌, ◌≤◌, ℕ}
-use Rattle.urb_cli.specs.declared.command_line.service.ServiceOptions.{ServiceOptions}
+use Rattle.urb_options.specs.declared.service_options.ServiceOptions.{ServiceOptions}
 use Rattle.urb_desk.specs.ClientLimits.{limits_of_clients}
 use Rattle.urb_desk.specs.declared.connections.ClientLimits.{ClientLimits}
 use Rattle.urb_desk.specs.declared.connections.TheConstants.{LEAST_CONNECTIONS}

@@ -1,7 +1,7 @@
 -- The doors of a group's stations.
 use Rattle.std.specs.Prelude.{◌≡◌, is_some, List}
 use Rattle.std.specs.List.{All}
-use Rattle.urb_cli.specs.declared.command_line.door_options.DoorOptions.{DoorOptions}
+use Rattle.urb_options.specs.declared.door_options.DoorOptions.{DoorOptions}
 use Rattle.urb_link.specs.declared.stations.Station.{Station}
 
 -- the station takes clients over TCP, and at a Unix socket, exactly if the options say so

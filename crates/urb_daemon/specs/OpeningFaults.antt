@@ -1,8 +1,8 @@
 -- What the program reports if the folder of a group can't be opened.
 use Rattle.urb_stable.specs.StableStorage.{refusal_of}
-use Rattle.urb_cli.specs.Statuses.{fault_of_refusal}
-use Rattle.urb_cli.specs.declared.faults.Fault.{Fault}
-use Rattle.urb_cli.specs.declared.faults.Fault.TheVariants as fault
+use Rattle.urb_options.specs.ProgramFaults.{fault_of_refusal}
+use Rattle.urb_options.specs.declared.faults.Fault.{Fault}
+use Rattle.urb_options.specs.declared.faults.Fault.TheVariants as fault
 use Rattle.urb_folder.specs.declared.folder_fault.FolderFault.{FolderFault}
 use Rattle.urb_folder.specs.declared.folder_fault.FolderFault.TheVariants.{ForeignRecords, Journal, NoMemory}
 

@@ -8,11 +8,11 @@ use Rattle.urb_group.specs.StoreOpenings.{HasStopped}
 use Rattle.urb_group.specs.GroupViews.{GroupView}
 use Rattle.urb_world.specs.World.{World}
 use Rattle.urb_sqlite.specs.FoundJournals.{AreFoundIn}
-use Rattle.urb_cli.specs.CommandLine.{urbd_app}
+use Rattle.urb_options.specs.CommandLine.{urbd_app}
 use Rattle.urb_cli.specs.Statuses.{IsErrandsEnd}
-use Rattle.urb_cli.specs.Tasks.{IsRefused, task_named, task_of}
-use Rattle.urb_cli.specs.declared.command_line.task.Line.{Line}
-use Rattle.urb_cli.specs.declared.command_line.task.Line.TheVariants as line
+use Rattle.urb_options.specs.Tasks.{IsRefused, task_named, task_of}
+use Rattle.urb_options.specs.declared.task.Line.{Line}
+use Rattle.urb_options.specs.declared.task.Line.TheVariants as line
 use Rattle.urb_daemon.specs.Endings.{ShowsEnd}
 use Rattle.urb_daemon.specs.Runs.{ComeBack, EndsFrom, limits_of}
 use Rattle.urb_daemon.specs.RunsAfterStop.{EndsAfterStop, Resumes}

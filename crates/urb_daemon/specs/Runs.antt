@@ -16,7 +16,7 @@ use Rattle.urb_group.specs.StoreOpenings.{HasStopped}
 use Rattle.urb_world.specs.World.{World, image_of, opened}
 use Rattle.urb_show.specs.Pasts.{IsLedTo}
 use Rattle.urb_worker.specs.ServedStores.{AreServed, numbers_from}
-use Rattle.urb_cli.specs.declared.command_line.options.ServeOptions.{ServeOptions}
+use Rattle.urb_options.specs.declared.serve_options.ServeOptions.{ServeOptions}
 use Rattle.urb_daemon.specs.declared.serve_fault.ServeFault.{ServeFault}
 use Rattle.urb_daemon.specs.declared.serve_fault.ServeFault.TheVariants.{Network, NoMemory, Unopened}
 use Rattle.urb_daemon.specs.declared.serve_fault.ServeFault.TheVariants.{Untold}

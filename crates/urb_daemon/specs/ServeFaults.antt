@@ -1,7 +1,7 @@
 -- What the program reports if a group doesn't run.
-use Rattle.urb_cli.specs.Statuses.{fault_of_refusal}
-use Rattle.urb_cli.specs.declared.faults.Fault.{Fault}
-use Rattle.urb_cli.specs.declared.faults.Fault.TheVariants as fault
+use Rattle.urb_options.specs.ProgramFaults.{fault_of_refusal}
+use Rattle.urb_options.specs.declared.faults.Fault.{Fault}
+use Rattle.urb_options.specs.declared.faults.Fault.TheVariants as fault
 use Rattle.urb_daemon.specs.declared.network_fault.NetworkFault.TheVariants as network
 use Rattle.urb_daemon.specs.declared.serve_fault.ServeFault.{ServeFault}
 use Rattle.urb_daemon.specs.declared.serve_fault.ServeFault.TheVariants.{Network, NoMemory, Unopened}

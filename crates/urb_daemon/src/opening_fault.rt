@@ -9,8 +9,8 @@ use crate::sockets::open_spare_descriptors;
 use std::alloc::Global;
 use std::net::{Net, TcpListener, TcpStream};
 use std::rt::HostRuntime;
-use urb_cli::{Fault, ServeOptions, report_fault};
 use urb_folder::{FolderFault, find_obstacle};
+use urb_options::{Fault, ServeOptions, report_fault};
 use urb_stable::StoreFault;
 
 /// What is reported of a folder with records of a node that the group doesn't have: the refusal

@@ -20,8 +20,9 @@ use std::io;
 use std::io::{IsTerminal, Read, Write};
 use std::net::{Net, TcpListener, TcpStream};
 use std::rt::{Env, HostRuntime};
-use urb_cli::{Fault, Line, ServeOptions, parse_line, read_words, report_fault, run_errand};
+use urb_cli::run_errand;
 use urb_folder::{FolderClaim, Journal, NodeDisk, close_journals, open_journals};
+use urb_options::{Fault, Line, ServeOptions, parse_line, read_words, report_fault};
 use urb_stable::Stable;
 
 // Runs a group over its journals until the input ends, closes them, and returns the program's status.

@@ -4,8 +4,8 @@ ghost use Rattle.std.specs.Prelude.{◌≡◌};
 ghost use Rattle.urb_daemon.specs.ServeFaults.{fault_of_serve};
 
 use crate::network_fault::NetworkFault;
-use urb_cli::{Fault, report_fault};
 use urb_names::{Refusal, Rule};
+use urb_options::{Fault, report_fault};
 
 /// Why a group didn't run, or couldn't tell that it runs.
 #[derive(Clone, Copy, Debug, PartialEq, Eq)]

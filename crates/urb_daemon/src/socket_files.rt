@@ -15,7 +15,7 @@ use std::os::unix::fs::{FileTypeExt, PermissionsExt};
 use std::os::unix::net::{UnixListener, UnixStream};
 use std::rt::Files;
 use std::{fs, io};
-use urb_cli::SocketOptions;
+use urb_options::SocketOptions;
 
 /// The longest path of a Unix socket, in bytes: the system keeps 108, and the last one is zero.
 pub const MAX_SOCKET_PATH: usize = 107;

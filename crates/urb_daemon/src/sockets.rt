@@ -3,7 +3,7 @@
 ghost use Rattle.std.specs.Prelude.{◌≡◌, ◌≤◌, ◌<◌, ◌+◌, ◌-◌, ◌*◌, ◌/◌, IfOk};
 ghost use Rattle.std.specs.Prelude.{◌⊎◌, ◌&&◌, None, is_some, MatchOption};
 ghost use Rattle.std.specs.Prelude.{map, vec_len};
-ghost use Rattle.urb_cli.specs.declared.limits.TheConstants.{MAX_BASE_PORT};
+ghost use Rattle.urb_options.specs.declared.limits.TheConstants.{MAX_BASE_PORT};
 ghost use Rattle.urb_names.specs.declared.limits.TheConstants.{MAX_NODES};
 ghost use Rattle.urb_desk.specs.declared.connections.TheConstants.{LEAST_CONNECTIONS};
 ghost use Rattle.urb_daemon.specs.ClientService.{FitService, limits_asked};
@@ -16,12 +16,12 @@ use crate::socket_files::{open_socket, remove_sockets};
 use std::alloc::Global;
 use std::net::{Ipv4Addr, Net, TcpListener, TcpStream, UdpSocket};
 use std::rt::Files;
-use urb_cli::{
+use urb_desk::{ClientLimits, IDLE_MINUTES, LEAST_CONNECTIONS, MOST_CONNECTIONS};
+use urb_link::{Station, UdpLink};
+use urb_options::{
     CLIENT_PORT_OFFSET, DoorOptions, MAX_CONNECTIONS, MIN_CONNECTIONS, STANDARD_IDLE_MINUTES,
     ServeOptions, ServiceOptions,
 };
-use urb_desk::{ClientLimits, IDLE_MINUTES, LEAST_CONNECTIONS, MOST_CONNECTIONS};
-use urb_link::{Station, UdpLink};
 
 // The range of the option is that of the nodes.
 const _: () = prove!(MIN_CONNECTIONS as usize == LEAST_CONNECTIONS);

@@ -3,9 +3,8 @@
 ghost use Rattle.std.specs.Prelude.{◌≡◌};
 ghost use Rattle.urb_cli.specs.Statuses.{fault_of_call};
 
-use crate::client::node_address::NodeAddress;
-use crate::faults::{FAULT, Fault};
 use urb_names::NoMemory;
+use urb_options::{FAULT, Fault, NodeAddress};
 
 /// Why a call of a node on this machine has no answer.
 #[derive(Clone, Copy, Debug, PartialEq, Eq)]
@@ -32,7 +31,7 @@ impl From<Fault> for CallFault {
 impl From<NoMemory> for CallFault {
     ghost use Rattle.std.specs.Prelude.{◌≡◌};
     ghost use Rattle.urb_cli.specs.declared.client.call_fault.CallFault.TheVariants.{Broken as broken};
-    ghost use Rattle.urb_cli.specs.declared.faults.Fault.TheVariants.{NoMemory as no_memory};
+    ghost use Rattle.urb_options.specs.declared.faults.Fault.TheVariants.{NoMemory as no_memory};
 
     ghost from_gives = { λ _ e. e ≡ broken no_memory };
 

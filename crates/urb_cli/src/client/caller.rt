@@ -7,8 +7,8 @@ ghost use Rattle.urb_cli.specs.Calls.{Fails, Insists, answer_of};
 ghost use Rattle.urb_cli.specs.declared.client.caller.TheConstants.{TRIES};
 
 use crate::client::call_fault::CallFault;
-use crate::faults::Fault;
 use urb_client::{Request, Response};
+use urb_options::Fault;
 
 /// How often a request without a response is sent again before the last try. Between two tries
 /// there is a pause.

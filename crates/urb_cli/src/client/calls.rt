@@ -7,9 +7,7 @@ ghost use Rattle.urb_client.specs.Responses.{encoding, frame, said_by};
 ghost use Rattle.urb_client.specs.MissingResponses.{HasNoResponse};
 
 use crate::client::call_fault::CallFault;
-use crate::client::node_address::NodeAddress;
 use crate::client::patient_stream::PatientStream;
-use crate::faults::Fault;
 use std::alloc::Global;
 use std::io;
 use std::io::{ErrorKind, Read, Write};
@@ -17,6 +15,7 @@ use std::net::{Ipv4Addr, Net, TcpListener, TcpStream};
 use std::os::unix::net::UnixStream;
 use urb_client::{Request, Response, encode_request, read_response};
 use urb_local::LocalStream;
+use urb_options::{Fault, NodeAddress};
 
 /// How long a patient connection waits for a node, in seconds.
 pub(crate) const PATIENCE: u64 = 10;

@@ -6,12 +6,12 @@ ghost use Rattle.urb_cli.specs.EntryForms.{begins_with_control, escaped_byte, fo
 ghost use Rattle.urb_cli.specs.EntryForms.{is_shown_as_text, json_head, json_line};
 ghost use Rattle.urb_cli.specs.EntryForms.{json_payload, text_line, text_payload};
 
-use crate::client::entry_form_kind::EntryForm;
 use crate::client::print::{push_entry, push_payload};
 use crate::client::refused_write::refused_write;
 use std::alloc::Global;
 use std::io::Write;
 use urb_names::{Message, Name, NoMemory};
+use urb_options::EntryForm;
 
 // Whether a control character begins these bytes of UTF-8.
 fn begins_with_control(bytes: &[u8]) -> bool

@@ -16,14 +16,11 @@ use crate::client::call_fault::CallFault;
 use crate::client::caller::{Caller, insist};
 use crate::client::calls::{PATIENCE, send};
 use crate::client::entry_form::push_page_in;
-use crate::client::entry_form_kind::EntryForm;
 use crate::client::follow_turn::FollowTurn;
 use crate::client::node_caller::NodeCaller;
 use crate::client::publish::write_refusal;
 use crate::client::stream_end::report_stream_end;
 use crate::client::stream_fault::{StreamEnd, StreamFault};
-use crate::command_line::stream_options::FollowOptions;
-use crate::faults::Fault;
 use std::alloc::Global;
 use std::io;
 use std::io::Write;
@@ -31,6 +28,7 @@ use std::net::{Net, TcpListener, TcpStream};
 use std::time::Clock;
 use urb_client::{MOST_ENTRIES, Request, Response};
 use urb_names::{Message, Name};
+use urb_options::{EntryForm, Fault, FollowOptions};
 
 /// How long a node may wait for the next entry before it answers, in milliseconds.
 const WAIT_MILLIS: u16 = 5_000;

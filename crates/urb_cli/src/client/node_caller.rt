@@ -6,13 +6,13 @@ ghost use Rattle.urb_client.specs.Requests.{IsAsked, IsShort, asked_by};
 use crate::client::call_fault::CallFault;
 use crate::client::caller::Caller;
 use crate::client::calls::{connect_patiently, exchange};
-use crate::client::node_address::NodeAddress;
 use crate::client::patient_stream::PatientStream;
 use std::alloc::Global;
 use std::net::{Net, TcpListener, TcpStream};
 use std::thread;
 use std::time::{Clock, Duration};
 use urb_client::{Request, Response};
+use urb_options::NodeAddress;
 
 /// The pause between two calls, in milliseconds.
 const PAUSE_MILLIS: u64 = 500;

@@ -18,14 +18,11 @@ use crate::client::call_fault::CallFault;
 use crate::client::caller::{Caller, insist};
 use crate::client::calls::send;
 use crate::client::decision::Decision;
-use crate::client::node_address::NodeAddress;
 use crate::client::node_caller::NodeCaller;
 use crate::client::print::render_accepted;
 use crate::client::stream_end::report_stream_end;
 use crate::client::stream_fault::{StreamEnd, StreamFault};
 use crate::client::texts::{InputLines, OneText, Texts};
-use crate::command_line::stream_options::PublishOptions;
-use crate::faults::Fault;
 use std::alloc::Global;
 use std::io;
 use std::io::Write;
@@ -33,6 +30,7 @@ use std::net::{Net, TcpListener, TcpStream};
 use std::time::Clock;
 use urb_client::{Request, Response};
 use urb_names::{ClientId, MAX_PAYLOAD, Payload, Refusal};
+use urb_options::{Fault, NodeAddress, PublishOptions};
 
 // The request of a submit.
 fn make_message_request(

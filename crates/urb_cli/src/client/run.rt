@@ -12,16 +12,14 @@ ghost use Rattle.urb_cli.specs.Statuses.{IsClientsEnd};
 
 use crate::client::call_fault::{CallFault, report_call_fault};
 use crate::client::calls::{connect, exchange};
-use crate::client::node_address::NodeAddress;
 use crate::client::print::{render_read_response, render_refusal, render_submit_response};
 use crate::client::printed::Printed;
-use crate::command_line::task::{ReadOptions, SubmitOptions};
-use crate::faults::{Fault, report_fault};
 use std::alloc::Global;
 use std::io::{Read, Write};
 use std::net::{Net, TcpListener, TcpStream};
 use urb_client::Request;
 use urb_names::{ClientId, MAX_PAYLOAD, Payload, Refusal};
+use urb_options::{Fault, NodeAddress, ReadOptions, SubmitOptions, report_fault};
 
 // The request of a submit.
 fn make_submit_request(alloc: Global, submitting: SubmitOptions<'_>) -> Result<Request, Fault>

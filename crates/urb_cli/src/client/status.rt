@@ -6,27 +6,26 @@ ghost use Rattle.std.specs.Io.KnownBytes.{Appends};
 ghost use Rattle.urb_client.specs.Requests.{Ask, request_body};
 ghost use Rattle.urb_client.specs.declared.request.Control.TheVariants.{Status};
 ghost use Rattle.urb_client.specs.Responses.{Refused, frame, said_by};
-ghost use Rattle.urb_cli.specs.Addresses.{address_of};
-ghost use Rattle.urb_cli.specs.internal.Addresses.{address_after};
+ghost use Rattle.urb_options.specs.Addresses.{address_of};
+ghost use Rattle.urb_cli.specs.internal.LaterAddresses.{address_after};
 ghost use Rattle.urb_cli.specs.ClientOutput.{IsShown, ShowsAs, ShowsNothing, shown_by};
 ghost use Rattle.urb_cli.specs.ClientOutput.{state_word, status_line, status_shown};
 ghost use Rattle.urb_cli.specs.Statuses.{IsClientsEnd};
 
+use crate::client::address_text::push_address;
 use crate::client::advice::push_refusal;
 use crate::client::call_fault::CallFault;
 use crate::client::calls::{connect_patiently, exchange};
-use crate::client::node_address::{NodeAddress, push_address};
 use crate::client::print::REFUSED;
 use crate::client::printed::Printed;
 use crate::client::refused_write::refused_write;
 use crate::client::run::show;
-use crate::command_line::task::StatusOptions;
-use crate::faults::Fault;
 use std::alloc::Global;
 use std::io::{Read, Write};
 use std::net::{Net, TcpListener, TcpStream};
 use urb_client::{Control, NodeState, Request, Response};
 use urb_names::NoMemory;
+use urb_options::{Fault, NodeAddress, StatusOptions};
 
 fn word(state: NodeState) -> &'static str
     ensures { result.now ≡ state_word state }

@@ -5,10 +5,9 @@ ghost use Rattle.urb_cli.specs.Statuses.{IsClientsEnd};
 ghost use Rattle.urb_cli.specs.Streams.{status_of_stream};
 
 use crate::client::call_fault::report_call_fault;
-use crate::client::node_address::NodeAddress;
 use crate::client::print::REFUSED;
 use crate::client::stream_fault::{StreamEnd, StreamFault};
-use crate::faults::report_fault;
+use urb_options::{NodeAddress, report_fault};
 
 /// Reports the fault of a command that calls the node at this address, if any, and returns the
 /// program's status. It is 0 if all was done, 4 after a refusal, and 1 after a fault.

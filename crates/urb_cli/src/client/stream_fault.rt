@@ -1,8 +1,8 @@
 //! How `publish` and `follow` end.
 
 use crate::client::call_fault::CallFault;
-use crate::faults::Fault;
 use urb_names::NoMemory;
+use urb_options::Fault;
 
 /// How a command ended that makes many calls.
 #[derive(Clone, Copy, Debug, PartialEq, Eq)]
@@ -46,7 +46,7 @@ impl From<Fault> for StreamFault {
 
 impl From<NoMemory> for StreamFault {
     ghost use Rattle.std.specs.Prelude.{◌≡◌};
-    ghost use Rattle.urb_cli.specs.declared.faults.Fault.TheVariants.{NoMemory as no_memory};
+    ghost use Rattle.urb_options.specs.declared.faults.Fault.TheVariants.{NoMemory as no_memory};
     ghost use Rattle.urb_cli.specs.declared.client.stream_fault.StreamFault.TheVariants.{Own as own};
 
     ghost from_gives = { λ _ e. e ≡ own no_memory };

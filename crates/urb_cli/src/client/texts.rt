@@ -4,9 +4,9 @@ ghost use Rattle.std.specs.Prelude.{◌≡◌, ℕ, List, IfOk, None, Some, opti
 ghost use Rattle.std.specs.Io.KnownBytes.{Consumes, IsAtEnd};
 ghost use Rattle.urb_cli.specs.Publishing.{Gives, HasEnded, TakesLine};
 
-use crate::faults::Fault;
 use std::io::{ErrorKind, Read};
 use urb_names::MAX_PAYLOAD;
+use urb_options::Fault;
 
 /// Gives texts, one after the other.
 pub trait Texts {

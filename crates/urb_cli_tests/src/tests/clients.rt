@@ -9,10 +9,10 @@ use std::test::Fail;
 use std::thread;
 use std::thread::Threads;
 use urb_cli::{
-    CallFault, Fault, NodeAddress, Printed, ReadOptions, SubmitOptions, read_at, read_over, show,
-    status_at, status_over, submit_at, submit_over,
+    CallFault, Printed, read_at, read_over, show, status_at, status_over, submit_at, submit_over,
 };
 use urb_names::MAX_PAYLOAD;
+use urb_options::{Fault, NodeAddress, ReadOptions, SubmitOptions};
 use urb_terminal::Terminal;
 
 /// The address of the node that a terminal is told of.

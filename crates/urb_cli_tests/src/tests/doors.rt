@@ -8,9 +8,10 @@ use std::os::unix::net::{UnixListener, UnixStream};
 use std::test::Fail;
 use std::thread::Threads;
 use std::{fs, thread};
-use urb_cli::{
-    CallFault, DoorOptions, Errand, Line, MAX_SOCKET_MODE, NodeAddress, STANDARD_SOCKET_MODE,
-    SocketOptions, parse_line, report_call_fault, status_at,
+use urb_cli::{CallFault, report_call_fault, status_at};
+use urb_options::{
+    DoorOptions, Errand, Line, MAX_SOCKET_MODE, NodeAddress, STANDARD_SOCKET_MODE, SocketOptions,
+    parse_line,
 };
 use urb_terminal::Terminal;
 

@@ -3,7 +3,7 @@
 use super::{WANTS_A_NETWORK, shown_by};
 use std::alloc::Global;
 use std::test::Fail;
-use urb_cli::{Errand, Line, NodeAddress, VERSION, parse_line};
+use urb_options::{Errand, Line, NodeAddress, VERSION, parse_line};
 use urb_terminal::Terminal;
 
 #[test]

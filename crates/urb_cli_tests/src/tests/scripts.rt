@@ -2,7 +2,7 @@
 
 use super::shown_by;
 use std::test::Fail;
-use urb_cli::{Fault, report_fault};
+use urb_options::{Fault, report_fault};
 use urb_terminal::Terminal;
 
 const ONE_NODE: &[u8] = b"group 1 10\nsubmit 1 7 1 hi\nstored 1\nlog 1\n";

@@ -2,7 +2,7 @@
 
 use std::alloc::Global;
 use std::test::Fail;
-use urb_cli::{
+use urb_options::{
     Line, MAX_CONNECTIONS, MAX_IDLE_MINUTES, MIN_CONNECTIONS, STANDARD_IDLE_MINUTES,
     ServiceOptions, parse_line,
 };

@@ -1,7 +1,7 @@
 //! The values of the command lines of `publish` and `follow`.
 
 use std::test::Fail;
-use urb_cli::{EntryForm, Errand, Line, NodeAddress, parse_line};
+use urb_options::{EntryForm, Errand, Line, NodeAddress, parse_line};
 use urb_terminal::Terminal;
 
 #[test]

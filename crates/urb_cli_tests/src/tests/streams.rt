@@ -5,11 +5,12 @@ ghost use Rattle.std.specs.Prelude.{⊤};
 use std::alloc::Global;
 use std::test::Fail;
 use urb_cli::{
-    CallFault, Caller, EntryForm, Fault, InputLines, NodeAddress, OneText, StreamEnd, StreamFault,
-    TRIES, Texts, follow_over, publish_over, report_stream_end,
+    CallFault, Caller, InputLines, OneText, StreamEnd, StreamFault, TRIES, Texts, follow_over,
+    publish_over, report_stream_end,
 };
 use urb_client::{Request, Response, encode_request, parse_response};
 use urb_names::MAX_PAYLOAD;
+use urb_options::{EntryForm, Fault, NodeAddress};
 use urb_terminal::Terminal;
 
 /// A node that gives these responses, in their order, and none after them. No bytes stand for a

@@ -8,9 +8,9 @@ use std::net::{Net, TcpListener, TcpStream};
 use std::rt::HostRuntime;
 use std::test::Fail;
 use std::thread::Threads;
-use urb_cli::ServeOptions;
 use urb_daemon::report_folder_fault;
 use urb_folder::{FolderClaim, NodeFile, close_journals, open_journals};
+use urb_options::ServeOptions;
 use urb_terminal::Terminal;
 
 const FOLDER: &str = "urbd_faults";

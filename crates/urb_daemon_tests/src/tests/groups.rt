@@ -10,11 +10,11 @@ use std::rt::Files;
 use std::test::Fail;
 use std::thread;
 use std::time::{Clock, Duration};
-use urb_cli::{ServeOptions, ServiceOptions};
 use urb_daemon::{Host, Network, NetworkFault, Port, open_link, open_network, run_group_at};
 use urb_desk::{ClientLimits, LEAST_CONNECTIONS};
 use urb_group::{Config, Group, MemStable};
 use urb_link::Station;
+use urb_options::{ServeOptions, ServiceOptions};
 use urb_turn::{Reporter, Silent};
 use urb_worker::Watch;
 

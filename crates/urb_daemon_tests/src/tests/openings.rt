@@ -8,8 +8,8 @@ use std::os::unix::fs::symlink;
 use std::rt::HostRuntime;
 use std::test::Fail;
 use std::thread::Threads;
-use urb_cli::Fault;
 use urb_folder::collect_opened;
+use urb_options::Fault;
 use urb_stable::StoreFault;
 
 // How many things were opened, or were returned, and the fault.

@@ -5,8 +5,8 @@ use std::fs;
 use std::net::{Net, TcpListener, TcpStream};
 use std::rt::HostRuntime;
 use std::test::Fail;
-use urb_cli::Fault;
 use urb_daemon::Host;
+use urb_options::Fault;
 
 // What a start with journals that don't fit its limits is refused with.
 const INCONSISTENT: Fault = Fault::Refused(14, 0);

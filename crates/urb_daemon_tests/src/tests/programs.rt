@@ -12,9 +12,10 @@ use std::sync::Wait;
 use std::sync::atomic::{AtomicU64, Ordering};
 use std::test::Fail;
 use std::{fs, io};
-use urb_cli::{CallFault, NodeAddress, Printed, ReadOptions, SubmitOptions, read_at, submit_at};
+use urb_cli::{CallFault, Printed, read_at, submit_at};
 use urb_daemon::{Host, run_program};
 use urb_folder::{FolderClaim, NodeFile};
+use urb_options::{NodeAddress, ReadOptions, SubmitOptions};
 use urb_terminal::{Shown, Terminal};
 
 /// An output for errors that keeps what it shows.

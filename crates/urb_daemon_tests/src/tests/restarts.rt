@@ -5,8 +5,8 @@ use std::fs;
 use std::net::{Net, TcpListener, TcpStream};
 use std::rt::HostRuntime;
 use std::test::Fail;
-use urb_cli::Fault;
 use urb_daemon::Host;
+use urb_options::Fault;
 
 // Starts a group of the given number of nodes three times on one folder. Its journals are closed
 // after the first start, and dropped after the second. At each start the clients send all their

@@ -5,13 +5,14 @@ use std::io;
 use std::io::Read;
 use std::net::{Net, TcpListener, TcpStream};
 use std::test::Fail;
-use urb_cli::{Fault, NodeAddress, ServeOptions, SubmitOptions, submit_at};
+use urb_cli::submit_at;
 use urb_daemon::{
     Console, Host, NetworkFault, Port, ServeFault, SocketCause, fault_of_serve, report_end,
     run_stores,
 };
 use urb_group::{MemStable, Record, Stable, StoreFault};
 use urb_names::{ClientId, Message, Name, NodeId, Refusal, Rule};
+use urb_options::{Fault, NodeAddress, ServeOptions, SubmitOptions};
 use urb_terminal::Terminal;
 use urb_turn::Silent;
 

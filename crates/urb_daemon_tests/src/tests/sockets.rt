@@ -11,12 +11,12 @@ use std::rt::Files;
 use std::test::Fail;
 use std::time::Duration;
 use std::{fs, io, thread};
-use urb_cli::{DoorOptions, ServeOptions, SocketOptions};
 use urb_daemon::{
     Console, Host, MAX_SOCKET_PATH, NetworkFault, ServeFault, SocketCause, judge_making,
     judge_probe, make_socket_path, open_network, open_socket, remove_sockets, run_stores,
 };
 use urb_group::MemStable;
+use urb_options::{DoorOptions, ServeOptions, SocketOptions};
 use urb_terminal::Terminal;
 use urb_turn::Silent;
 

@@ -8,8 +8,8 @@ use std::net::{Net, TcpListener, TcpStream};
 use std::rt::HostRuntime;
 use std::test::Fail;
 use std::thread::Threads;
-use urb_cli::Fault;
 use urb_daemon::Host;
+use urb_options::Fault;
 
 const FOLDER: &str = "urbd_starts";
 

@@ -9,9 +9,9 @@ use std::rt::HostRuntime;
 use std::thread::Threads;
 use std::time::{Clock, Duration};
 use std::{fs, io, thread};
-use urb_cli::{Fault, ServeOptions};
 use urb_daemon::{Console, Host, fault_of_folder, fault_of_serve, run_journals};
 use urb_folder::{FolderClaim, NodeFile, close_journals, open_journals};
+use urb_options::{Fault, ServeOptions};
 use urb_terminal::Terminal;
 use urb_turn::Silent;
 
