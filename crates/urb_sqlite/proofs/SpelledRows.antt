@@ -116,7 +116,7 @@ three true false d x r h = absurd (let n = h in cc)
 three false b d x r h = absurd (let n = h in cc)
 
 -- the parts that a row was read by
-pub record Found (limit place : ℕ) (row : Row) (r : Entry) : Type 0 where
+pub record FoundRow (limit place : ℕ) (row : Row) (r : Entry) : Type 0 where
   pub c : Columns
   pub payload : List ℕ
   pub numbers : Numbers row c
@@ -128,13 +128,13 @@ pub record Found (limit place : ℕ) (row : Row) (r : Entry) : Type 0 where
 
 -- a row that is read as a record has its place, a name, and the other parts of the record
 pub found_in : (limit place : ℕ) (row : Row) (r : Entry) → record_at limit place row ≡ Some r
-    → Found limit place row r
+    → FoundRow limit place row r
 found_in limit place row r h = go (numbers_in row) (bytes_in (column row 6)) refl refl h
   where
     go : (o : Option Columns) (b : Option (List ℕ)) → numbers_in row ≡ o
         → bytes_in (column row 6) ≡ b
         → option_and_then (λ c. option_and_then (record_in limit place c) b) o ≡ Some r
-        → Found limit place row r
+        → FoundRow limit place row r
     go None b is at h = absurd (let n = h in cc)
     go (Some c) None is at h = absurd (let n = h in cc)
     go (Some c) (Some payload) is at h =

@@ -434,18 +434,18 @@ insert_parsed = record {
 -- ---- under a schema that has the table
 
 -- a table of records is at this place of the schema, under this name
-pub record Found (s : Schema) (name : List ℕ) : Type 0 where
+pub record FoundTable (s : Schema) (name : List ℕ) : Type 0 where
   pub at : ℕ
   pub named : table_named s name ≡ Some at
   pub there : slice_get s.tables at ≡ Some (record_table name (tree_of s name))
 
 -- a table of records has a place in the schema, and is found there by its name
-pub found_at : (s : Schema) (name : List ℕ) → HasTable s name → Found s name
+pub found_at : (s : Schema) (name : List ℕ) → HasTable s name → FoundTable s name
 found_at s name has = go (table_named s name) refl has.there
   where
     go : (o : Option ℕ) → table_named s name ≡ o
         → option_and_then (slice_get s.tables) o ≡ Some (record_table name (tree_of s name))
-        → Found s name
+        → FoundTable s name
     go None is there = absurd (let e = there in cc)
     go (Some at) is there = record { at = at; named = is; there = there }
 

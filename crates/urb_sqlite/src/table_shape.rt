@@ -1,11 +1,9 @@
 //! Whether a database has a table of records under a name. A table of another kind or a view
 //! doesn't count.
 
-ghost use Rattle.std.specs.Prelude.{◌≡◌, ◌==◌, length};
-ghost use Rattle.sqlite_schema.specs.Names.{is_key};
+ghost use Rattle.std.specs.Prelude.{◌≡◌};
 ghost use Rattle.urb_sqlite.specs.TableShapes as shape;
 
-use sqlite_schema::code::Terms;
 use sqlite_schema::schema::{Column, Kind, Schema, Table};
 use sqlite_value::keys::Collation;
 use sqlite_value::value::Value;
@@ -83,19 +81,14 @@ fn are_columns(columns: &[Column]) -> bool
         && is_bytes(columns, 6, b"payload")
 }
 
-fn is_first(key: Option<usize>) -> bool
-    ensures { result ≡ is_key key 0 }
-{
-    match key {
-        Some(at) => at == 0,
-        None => false,
-    }
-}
-
 fn is_keyed(table: &Table) -> bool
     ensures { result ≡ shape.is_keyed table.now }
 {
-    is_first(table.key)
+    let is_first = match table.key {
+        Some(at) => at == 0,
+        None => false,
+    };
+    is_first
         && table.primary.len() == 1
         && match table.primary.get(0) {
             Some(at) => *at == 0,
@@ -103,18 +96,12 @@ fn is_keyed(table: &Table) -> bool
         }
 }
 
-fn are_none(terms: &Terms) -> bool
-    ensures { result ≡ (length terms.now == 0) }
-{
-    terms.roots.len() == 0
-}
-
 fn is_free(table: &Table) -> bool
     ensures { result ≡ shape.is_free table.now }
 {
     table.uniques.len() == 0
         && table.orders.len() == 0
-        && are_none(&table.checks)
+        && table.checks.roots.len() == 0
         && table.references.len() == 0
 }
 
@@ -123,7 +110,7 @@ fn is_written(table: &Table) -> bool
 {
     table.computed.len() == 0
         && table.stamps.places.len() == 0
-        && are_none(&table.stamps.terms)
+        && table.stamps.terms.roots.len() == 0
         && table.stamps.formats.len() == 0
         && !table.is_counted
 }

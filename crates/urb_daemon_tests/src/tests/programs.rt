@@ -45,15 +45,15 @@ impl<R: Wait> Eprint for Kept<R> {
 
 /// An input that ends at once, and isn't a terminal.
 #[derive(Drop)]
-struct Ended;
+struct ClosedInput;
 
-impl Read for Ended {
+impl Read for ClosedInput {
     fn read(&mut self, _buf: &mut [u8]) -> io::Result<usize> {
         Ok(0)
     }
 }
 
-impl IsTerminal for Ended {
+impl IsTerminal for ClosedInput {
     fn is_terminal(&self) -> bool {
         false
     }
@@ -277,14 +277,14 @@ fn the_program_ends_with_the_status_of_what_its_words_ask_for(rt: HostRuntime) -
             b"urbd: refused 15 0: urbd_no_folder/node-1.db: ",
         ),
     ] {
-        let shown = run_with(rt, &rt, words, true, Ended).ok_or("memory")?;
+        let shown = run_with(rt, &rt, words, true, ClosedInput).ok_or("memory")?;
         assert_eq!(rt; shown.status, status);
         assert_eq!(rt; shown.output.as_slice(), output);
         let errors = str::from_utf8(shown.errors.as_slice()).or(Err("a text"))?;
         assert!(rt; errors.as_bytes().starts_with(begins), "{errors}");
     }
     // The help can't be written.
-    let shown = run_with(rt, &rt, &[b"urbd", b"--help"], false, Ended).ok_or("memory")?;
+    let shown = run_with(rt, &rt, &[b"urbd", b"--help"], false, ClosedInput).ok_or("memory")?;
     assert!(rt; shown.is(1, b"", b"urbd: write failed\n", b""));
     Ok(())
 }

@@ -24,7 +24,7 @@ const INCONSISTENT: u8 = 14;
 
 /// What a group of three reports. It has how many names each node has delivered, whether all nodes
 /// are ready, and whether node 1 accepts the message again, as 1.1.
-type Told = ([usize; 3], bool, bool);
+type Report = ([usize; 3], bool, bool);
 
 // The node with this number, the client whose message was sent, and the limits of a group of three.
 fn node(number: u8) -> Option<NodeId> {
@@ -92,7 +92,7 @@ fn accepts_again(alloc: Global, group: &mut Group) -> Option<bool> {
 }
 
 // The report of a group.
-fn report_of(alloc: Global, group: &mut Group) -> Option<Told> {
+fn report_of(alloc: Global, group: &mut Group) -> Option<Report> {
     let mut logs = [0; 3];
     let mut are_ready = true;
     for (number, log) in (1u8..4).zip(logs.iter_mut()) {
@@ -108,7 +108,7 @@ fn open_stores<R: Threads + Sync>(
     rt: &R,
     alloc: Global,
     held: [Held; 3],
-) -> Option<Result<Told, u8>> {
+) -> Option<Result<Report, u8>> {
     let stores = stores_of(alloc, held)?;
     if stores.len() != 3 {
         return None;

@@ -54,12 +54,12 @@ fn submit_all(cluster: &mut Cluster<MemStable>, alloc: Global, last: u32) -> Opt
 
 /// What a lone node says once it is opened again: the length of its log, and the answers to the
 /// client's messages 1, 2 and 3.
-type Told = (usize, Vec<u8>);
+type OpenedLog = (usize, Vec<u8>);
 
 // A lone node with a cap of 2 gets three messages. Then it stops, and is opened with this cap. The
 // client sends its messages again. Returns the answers to the first three messages,
 // and what the node says after its stop, or the refusal of its opening.
-fn fill_and_open(alloc: Global, cap: u32) -> Option<(Vec<u8>, Result<Told, Refusal>)> {
+fn fill_and_open(alloc: Global, cap: u32) -> Option<(Vec<u8>, Result<OpenedLog, Refusal>)> {
     let mut full = open_over(alloc, 1, 2, Vec::new(alloc))?.ok()?;
     let first = submit_all(&mut full, alloc, 3)?;
     let opened = open_over(alloc, 1, cap, full.into_stores())?;

@@ -29,10 +29,10 @@ fn drive_new<A: Allocator + Copy>(alloc: A, events: &[Event]) -> Option<Cluster<
 
 /// How many names nodes 1 and 2 have delivered, and whether the message is accepted as one that
 /// node 1 has stored.
-type Told = (usize, usize, bool);
+type Findings = (usize, usize, bool);
 
 // Returns what a cluster answers.
-fn ask<A: Allocator + Copy>(cluster: &mut Cluster<MemStable<A>>, alloc: A) -> Option<Told> {
+fn ask<A: Allocator + Copy>(cluster: &mut Cluster<MemStable<A>>, alloc: A) -> Option<Findings> {
     let is_accepted = matches!(lead(cluster, alloc, Event::Submit), Led::Accepted);
     let group = cluster.group();
     let names = (group.log(one())?.len(), group.log(two())?.len());
@@ -40,7 +40,7 @@ fn ask<A: Allocator + Copy>(cluster: &mut Cluster<MemStable<A>>, alloc: A) -> Op
 }
 
 // Returns what a cluster answers after it is opened over these stores.
-fn open_and_ask<A: Allocator + Copy>(alloc: A, stores: Vec<MemStable<A>, A>) -> Option<Told> {
+fn open_and_ask<A: Allocator + Copy>(alloc: A, stores: Vec<MemStable<A>, A>) -> Option<Findings> {
     if stores.len() != 3 {
         return None;
     }
@@ -49,7 +49,7 @@ fn open_and_ask<A: Allocator + Copy>(alloc: A, stores: Vec<MemStable<A>, A>) -> 
 }
 
 // Returns the answers after a stop, from the stores alone.
-fn ask_after_stop(alloc: Global) -> Option<Told> {
+fn ask_after_stop(alloc: Global) -> Option<Findings> {
     open_and_ask(alloc, drive_new(alloc, &DELIVERED)?.into_stores())
 }
 
@@ -68,7 +68,7 @@ fn store_uncommitted(alloc: Global, stores: &mut [MemStable]) -> Option<()> {
 
 // Returns the answers after a stop in between: the store of node 1 had taken the record, but the
 // group had no receipt yet.
-fn ask_after_uncommitted(alloc: Global) -> Option<Told> {
+fn ask_after_uncommitted(alloc: Global) -> Option<Findings> {
     let mut stores = drive_new(alloc, &[Event::Submit])?.into_stores();
     store_uncommitted(alloc, &mut stores)?;
     open_and_ask(alloc, stores)
@@ -82,7 +82,7 @@ fn a_record_that_was_stored_and_not_told_comes_back(rt: HostRuntime) -> Result<(
 
 // Returns the answers after a stop, and whether memory was refused to the opening. If it was, the
 // cluster is opened another time.
-fn ask_reopened<A: Allocator + Copy>(heap: A, calm: A) -> Option<(Told, bool)> {
+fn ask_reopened<A: Allocator + Copy>(heap: A, calm: A) -> Option<(Findings, bool)> {
     match drive_new(calm, &[Event::Submit, Event::StoreOne])?.reopen(heap) {
         Ok(mut cluster) => Some((ask(&mut cluster, calm)?, false)),
         Err((stores, Refusal::NoMemory)) => Some((open_and_ask(calm, stores)?, true)),

@@ -4,7 +4,7 @@ use super::*;
 use crate::tests::packets::{letter, packet_for};
 use crate::tests::rows::What;
 use crate::tests::sending::are_sent;
-use crate::tests::states::{State, Went, went};
+use crate::tests::states::{AnyNode, Went, went};
 use urb_names::{Flags, Payload, Refusal};
 use urb_node::{Answer, Ready, Step, Storing};
 use urb_stable::Draft;
@@ -98,11 +98,11 @@ fn go<A: Allocator + Copy>(step: Step<A>, what: &What, named: Name, payload: &[u
         Step::Same(ready, answer) => {
             let is_so = answers(&ready, &answer, what, named, payload);
             drop(answer);
-            (State::Ready(ready), went(is_so))
+            (AnyNode::Ready(ready), went(is_so))
         }
         Step::Store(storing, draft) => {
             let is_so = drafts(&draft, what, named) && is_held_back(&storing, &draft);
-            (State::Storing(storing, draft), went(is_so))
+            (AnyNode::Storing(storing, draft), went(is_so))
         }
     }
 }
@@ -116,13 +116,13 @@ fn lead<A: Allocator + Copy>(
 ) -> Went<A> {
     match called {
         Ok(step) => go(step, what, named, payload),
-        Err((ready, refusal)) => (State::Ready(ready), check_refusal(refusal, what)),
+        Err((ready, refusal)) => (AnyNode::Ready(ready), check_refusal(refusal, what)),
     }
 }
 
 /// Submits a message of client 7. Its payload is in memory that is never refused.
 pub(super) fn submit<A: Allocator + Copy>(
-    state: State<A>,
+    state: AnyNode<A>,
     (heap, calm): (A, A),
     number: u32,
     payload: &[u8],
@@ -133,7 +133,7 @@ pub(super) fn submit<A: Allocator + Copy>(
         return (state, None);
     };
     match state {
-        State::Ready(ready) => lead(
+        AnyNode::Ready(ready) => lead(
             ready.submit(heap, client, number, &shared),
             what,
             named,
@@ -145,7 +145,7 @@ pub(super) fn submit<A: Allocator + Copy>(
 
 // Delivers a packet with these bytes, which carries this message.
 fn meet<A: Allocator + Copy>(
-    state: State<A>,
+    state: AnyNode<A>,
     heap: A,
     bytes: &[u8],
     sent: &Message<A>,
@@ -153,14 +153,14 @@ fn meet<A: Allocator + Copy>(
     named: Name,
 ) -> Went<A> {
     match state {
-        State::Ready(ready) => match packet_for(&ready, bytes, sent) {
+        AnyNode::Ready(ready) => match packet_for(&ready, bytes, sent) {
             Some(packet) => lead(
                 ready.arrive(heap, packet, None),
                 what,
                 named,
                 sent.payload(),
             ),
-            None => (State::Ready(ready), None),
+            None => (AnyNode::Ready(ready), None),
         },
         other => (other, None),
     }
@@ -168,7 +168,7 @@ fn meet<A: Allocator + Copy>(
 
 // Delivers a packet of this message.
 fn arrive_with<A: Allocator + Copy>(
-    state: State<A>,
+    state: AnyNode<A>,
     (heap, calm): (A, A),
     origin: (u8, Option<Flags>),
     sent: &Message<A>,
@@ -187,7 +187,7 @@ fn arrive_with<A: Allocator + Copy>(
 
 /// Delivers a packet of client 7's message from this source, with these flags.
 pub(super) fn arrive<A: Allocator + Copy>(
-    state: State<A>,
+    state: AnyNode<A>,
     memory: (A, A),
     origin: (u8, Option<Flags>),
     payload: &[u8],

@@ -5,7 +5,7 @@ ghost use Rattle.std.specs.Prelude.{◌+◌, ◌<◌, ◌^◌};
 use super::*;
 use crate::tests::rows::{Act, Row};
 use crate::tests::sending::are_sent;
-use crate::tests::states::{State, Went, went};
+use crate::tests::states::{AnyNode, Went, went};
 use urb_node::{Done, Storing};
 use urb_stable::{Draft, Failure, MemStable, Receipt, Stable};
 
@@ -41,26 +41,26 @@ fn confirm<A: Allocator + Copy>(
         Ok((ready, done)) => {
             let is_so = tells(&done, node, named, row);
             drop(done);
-            (State::Ready(ready), went(is_so))
+            (AnyNode::Ready(ready), went(is_so))
         }
         Err((storing, receipt)) => {
             drop(receipt);
-            (State::Down(storing.fail()), None)
+            (AnyNode::Down(storing.fail()), None)
         }
     }
 }
 
 /// Stores the draft and gives the node its receipt.
 pub(super) fn keep<A: Allocator + Copy>(
-    state: State<A>,
+    state: AnyNode<A>,
     store: &mut MemStable<A>,
     named: Name,
     row: &Row,
 ) -> Went<A> {
     match state {
-        State::Storing(storing, draft) => match draft.keep(store) {
+        AnyNode::Storing(storing, draft) => match draft.keep(store) {
             Ok(receipt) => confirm(storing, receipt, named, row),
-            Err(_doubt) => (State::Down(storing.fail()), None),
+            Err(_doubt) => (AnyNode::Down(storing.fail()), None),
         },
         other => (other, None),
     }
@@ -68,33 +68,33 @@ pub(super) fn keep<A: Allocator + Copy>(
 
 /// Makes the store fail in this way, and the node with it.
 pub(super) fn doubt<A: Allocator + Copy>(
-    state: State<A>,
+    state: AnyNode<A>,
     store: &mut MemStable<A>,
     failure: Failure,
 ) -> Went<A> {
     match state {
-        State::Storing(storing, draft) => {
+        AnyNode::Storing(storing, draft) => {
             store.arm(failure);
             let kept = draft.keep(store);
             let is_kept = kept.is_ok();
             drop(kept);
-            (State::Down(storing.fail()), went(!is_kept))
+            (AnyNode::Down(storing.fail()), went(!is_kept))
         }
         other => (other, None),
     }
 }
 
 /// Loses the draft: the store fails, or the node crashes.
-pub(super) fn lose<A: Allocator + Copy>(state: State<A>, fails: bool) -> Went<A> {
+pub(super) fn lose<A: Allocator + Copy>(state: AnyNode<A>, fails: bool) -> Went<A> {
     match state {
-        State::Storing(storing, draft) => {
+        AnyNode::Storing(storing, draft) => {
             drop(draft);
             let down = if fails {
                 storing.fail()
             } else {
                 storing.crash()
             };
-            (State::Down(down), Some(true))
+            (AnyNode::Down(down), Some(true))
         }
         other => (other, None),
     }
@@ -156,19 +156,19 @@ fn comes_back<A: Allocator + Copy>(
         Ok((ready, done)) => {
             drop(done);
             drop(draft);
-            (State::Ready(ready), None)
+            (AnyNode::Ready(ready), None)
         }
         Err((storing, back)) => {
             let is_it = back.node() == node && back.pos() == pos;
             drop(back);
-            (State::Storing(storing, draft), went(is_it))
+            (AnyNode::Storing(storing, draft), went(is_it))
         }
     }
 }
 
 /// Offers a node the receipt of another draft, with this node and position, which it must return.
 pub(super) fn give_back<A: Allocator + Copy>(
-    state: State<A>,
+    state: AnyNode<A>,
     calm: A,
     place: (u8, u32),
     form: &Form,
@@ -177,7 +177,7 @@ pub(super) fn give_back<A: Allocator + Copy>(
 ) -> Went<A> {
     match receipt_of(calm, place, form, named, payload) {
         Some(receipt) => match state {
-            State::Storing(storing, draft) => comes_back(storing, draft, receipt),
+            AnyNode::Storing(storing, draft) => comes_back(storing, draft, receipt),
             other => {
                 drop(receipt);
                 (other, None)

@@ -4,7 +4,7 @@ ghost use Rattle.std.specs.Prelude.{◌≡◌, IfSome, IsTrue};
 ghost use Rattle.urb_node.specs.CallEffects.{IsForNode};
 ghost use Rattle.urb_node.specs.RecordAdmission.{MayArrive};
 
-use crate::tests::states::State;
+use crate::tests::states::AnyNode;
 use std::alloc::Allocator;
 use urb_names::{
     Flags, MAX_PLAIN_PAYLOAD, Message, Name, NodeId, Packet, PacketView, encode, parse,
@@ -85,14 +85,14 @@ fn bytes_of<A: Allocator + Copy>(
 /// The bytes of a packet that carries this message to a ready node. It is of version two if flags
 /// are given.
 pub(super) fn letter<A: Allocator + Copy>(
-    state: &State<A>,
+    state: &AnyNode<A>,
     calm: A,
     (source, flags): (u8, Option<Flags>),
     named: Name,
     sent: &Message<A>,
 ) -> Option<Vec<u8, A>> {
     match (state, NodeId::new(source)) {
-        (State::Ready(ready), Some(source)) => {
+        (AnyNode::Ready(ready), Some(source)) => {
             let (target, _config) = ready.place();
             bytes_of(calm, (source, target), named, sent, flags)
         }

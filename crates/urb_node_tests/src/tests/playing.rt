@@ -7,7 +7,7 @@ use crate::tests::opening::opened_at_last;
 use crate::tests::rising::{crash, refuse, rise};
 use crate::tests::rows::{Act, Known, List, Row, Start, What};
 use crate::tests::sending::{send, tick};
-use crate::tests::states::{State, Went, went};
+use crate::tests::states::{AnyNode, Went, went};
 use std::alloc::Global;
 use std::process::Abort;
 use urb_names::Config;
@@ -60,7 +60,7 @@ fn are_names(log: &[Name], names: &[(u8, u32)]) -> bool {
 
 // Whether a node knows about a message exactly what is expected.
 fn knows<A: Allocator + Copy>(
-    state: &State<A>,
+    state: &AnyNode<A>,
     named: Name,
     sent: &Message<A>,
     (held, there, certified): Known,
@@ -72,7 +72,7 @@ fn knows<A: Allocator + Copy>(
 
 // The same for a message of client 7.
 fn tells_of<A: Allocator + Copy>(
-    state: &State<A>,
+    state: &AnyNode<A>,
     calm: A,
     named: Name,
     payload: &[u8],
@@ -90,7 +90,7 @@ fn tells_of<A: Allocator + Copy>(
 
 // Calls a ready node.
 fn call<A: Allocator + Copy>(
-    state: State<A>,
+    state: AnyNode<A>,
     memory: (A, A),
     (act, _, payload): &Row,
     named: Name,
@@ -107,7 +107,7 @@ fn call<A: Allocator + Copy>(
 
 // Plays a row that uses a draft.
 fn play_draft<A: Allocator + Copy>(
-    state: State<A>,
+    state: AnyNode<A>,
     store: &mut MemStable<A>,
     calm: A,
     row: &Row,
@@ -127,7 +127,7 @@ fn play_draft<A: Allocator + Copy>(
 
 // Plays a crash or a restart.
 fn play_fall<A: Allocator + Copy>(
-    state: State<A>,
+    state: AnyNode<A>,
     store: &mut MemStable<A>,
     memory: (A, A),
     act: &Act,
@@ -142,7 +142,7 @@ fn play_fall<A: Allocator + Copy>(
 
 // Plays a tick or a query.
 fn play_told<A: Allocator + Copy>(
-    state: State<A>,
+    state: AnyNode<A>,
     (heap, calm): (A, A),
     (act, _, payload): &Row,
     named: Name,
@@ -166,7 +166,7 @@ fn play_told<A: Allocator + Copy>(
 
 // Plays a row.
 fn play_act<A: Allocator + Copy>(
-    state: State<A>,
+    state: AnyNode<A>,
     store: &mut MemStable<A>,
     memory: (A, A),
     row: &Row,
@@ -185,13 +185,13 @@ fn play_act<A: Allocator + Copy>(
 }
 
 // How many messages a node has broadcast and delivered, and whether it has one with this name.
-fn ask<A: Allocator + Copy>(state: &State<A>, named: Name) -> (u32, usize, bool) {
+fn ask<A: Allocator + Copy>(state: &AnyNode<A>, named: Name) -> (u32, usize, bool) {
     (state.own_len(), state.log().len(), state.has(named))
 }
 
 // Plays the same row again, which must not be refused again.
 fn play_again<A: Allocator + Copy>(
-    state: State<A>,
+    state: AnyNode<A>,
     store: &mut MemStable<A>,
     memory: (A, A),
     row: &Row,
@@ -206,7 +206,7 @@ fn play_again<A: Allocator + Copy>(
 // Plays a row. If it is refused for memory, nothing has changed, and it succeeds the second time.
 // Returns whether it was refused.
 fn play_named<A: Allocator + Copy>(
-    state: State<A>,
+    state: AnyNode<A>,
     store: &mut MemStable<A>,
     memory: (A, A),
     row: &Row,
@@ -224,7 +224,7 @@ fn play_named<A: Allocator + Copy>(
 
 // The same, with the name of the row.
 fn play_row<A: Allocator + Copy>(
-    state: State<A>,
+    state: AnyNode<A>,
     store: &mut MemStable<A>,
     memory: (A, A),
     row: &Row,
@@ -242,11 +242,11 @@ type Played = Result<bool, (usize, usize)>;
 
 // Plays rows, which are this part of a list.
 fn play_part<A: Allocator + Copy>(
-    mut state: State<A>,
+    mut state: AnyNode<A>,
     store: &mut MemStable<A>,
     memory: (A, A),
     (part, rows): (usize, &[Row]),
-) -> (State<A>, Played) {
+) -> (AnyNode<A>, Played) {
     let mut refused = false;
     for (place, row) in rows.iter().enumerate() {
         let (next, gone) = play_row(state, store, memory, row);
@@ -261,11 +261,11 @@ fn play_part<A: Allocator + Copy>(
 
 // Plays the parts of a list.
 fn play_parts<A: Allocator + Copy>(
-    mut state: State<A>,
+    mut state: AnyNode<A>,
     store: &mut MemStable<A>,
     memory: (A, A),
     parts: &[&[Row]],
-) -> (State<A>, Played) {
+) -> (AnyNode<A>, Played) {
     let mut refused = false;
     for (part, rows) in parts.iter().enumerate() {
         let (next, played) = play_part(state, store, memory, (part, rows));
@@ -281,7 +281,7 @@ fn play_parts<A: Allocator + Copy>(
 // The same at a node with a new store.
 fn play_from<A: Allocator + Copy>(ready: Ready<A>, memory: (A, A), parts: &[&[Row]]) -> Played {
     let mut store = MemStable::new(memory.1);
-    let (state, played) = play_parts(State::Ready(ready), &mut store, memory, parts);
+    let (state, played) = play_parts(AnyNode::Ready(ready), &mut store, memory, parts);
     drop(state);
     drop(store);
     played

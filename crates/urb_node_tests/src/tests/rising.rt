@@ -1,14 +1,14 @@
 //! Crashes of a node under test, and restarts with images.
 
 use super::*;
-use crate::tests::states::{State, Went, went};
+use crate::tests::states::{AnyNode, Went, went};
 use urb_names::Refusal;
 use urb_stable::{MemStable, Stable};
 
 /// Crashes a node that holds no draft.
-pub(super) fn crash<A: Allocator + Copy>(state: State<A>) -> Went<A> {
+pub(super) fn crash<A: Allocator + Copy>(state: AnyNode<A>) -> Went<A> {
     match state {
-        State::Ready(ready) => (State::Down(ready.crash()), Some(true)),
+        AnyNode::Ready(ready) => (AnyNode::Down(ready.crash()), Some(true)),
         other => (other, None),
     }
 }
@@ -48,15 +48,15 @@ fn check_restart(refusal: Option<Refusal>, expected: Option<Refusal>) -> Option<
 
 // Restarts a node with an image, and compares the outcome with the expected one.
 fn restart<A: Allocator + Copy>(
-    state: State<A>,
+    state: AnyNode<A>,
     heap: A,
     image: Vec<Record<Message<A>>, A>,
     expected: Option<Refusal>,
 ) -> Went<A> {
     match state {
-        State::Down(down) => match down.restart(heap, image) {
-            Ok(ready) => (State::Ready(ready), check_restart(None, expected)),
-            Err((down, refusal)) => (State::Down(down), check_restart(Some(refusal), expected)),
+        AnyNode::Down(down) => match down.restart(heap, image) {
+            Ok(ready) => (AnyNode::Ready(ready), check_restart(None, expected)),
+            Err((down, refusal)) => (AnyNode::Down(down), check_restart(Some(refusal), expected)),
         },
         other => {
             drop(image);
@@ -67,7 +67,7 @@ fn restart<A: Allocator + Copy>(
 
 // The same, if there is memory for the image.
 fn restart_with<A: Allocator + Copy>(
-    state: State<A>,
+    state: AnyNode<A>,
     heap: A,
     image: Option<Vec<Record<Message<A>>, A>>,
     expected: Option<Refusal>,
@@ -80,7 +80,7 @@ fn restart_with<A: Allocator + Copy>(
 
 /// Restarts a node with the records of its store, which it must accept.
 pub(super) fn rise<A: Allocator + Copy>(
-    state: State<A>,
+    state: AnyNode<A>,
     (heap, calm): (A, A),
     store: &mut MemStable<A>,
 ) -> Went<A> {
@@ -89,7 +89,7 @@ pub(super) fn rise<A: Allocator + Copy>(
 
 /// Restarts a node with another image, which it must refuse.
 pub(super) fn refuse<A: Allocator + Copy>(
-    state: State<A>,
+    state: AnyNode<A>,
     (heap, calm): (A, A),
     rows: &[Kept],
 ) -> Went<A> {

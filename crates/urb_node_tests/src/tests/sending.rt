@@ -2,7 +2,7 @@
 
 use super::*;
 use crate::tests::rows::Sent;
-use crate::tests::states::{State, Went, went};
+use crate::tests::states::{AnyNode, Went, went};
 use urb_names::{NoMemory, Packet};
 use urb_stubborn::Outbox;
 
@@ -69,19 +69,19 @@ fn ticks<A: Allocator + Copy>(
 
 /// Performs a tick and checks what it sends.
 pub(super) fn tick<A: Allocator + Copy>(
-    state: State<A>,
+    state: AnyNode<A>,
     heap: A,
     sender: NodeId,
     expected: &[Sent],
     payload: &[u8],
 ) -> Went<A> {
     match state {
-        State::Ready(ready) => {
+        AnyNode::Ready(ready) => {
             let (node, _config) = ready.place();
             let (ready, sent) = ready.tick(heap);
             let told = ticks(&sent, node, sender, expected, payload);
             drop(sent);
-            (State::Ready(ready), told)
+            (AnyNode::Ready(ready), told)
         }
         other => (other, None),
     }
@@ -96,13 +96,13 @@ fn sends<A: Allocator + Copy>(sent: &Result<Outbox<A>, NoMemory>, count: usize) 
 }
 
 /// Performs a tick and checks how many packets it sends.
-pub(super) fn send<A: Allocator + Copy>(state: State<A>, heap: A, count: usize) -> Went<A> {
+pub(super) fn send<A: Allocator + Copy>(state: AnyNode<A>, heap: A, count: usize) -> Went<A> {
     match state {
-        State::Ready(ready) => {
+        AnyNode::Ready(ready) => {
             let (ready, sent) = ready.tick(heap);
             let told = sends(&sent, count);
             drop(sent);
-            (State::Ready(ready), told)
+            (AnyNode::Ready(ready), told)
         }
         other => (other, None),
     }
