@@ -1,8 +1,14 @@
 -- Calls of a node, one after the other.
-use Rattle.std.specs.Prelude.{◌≡◌, ℕ, zero, suc, List, [], ◌∷◌, Option, Some, None, Result, Ok, Err}
+use Rattle.std.specs.Prelude.{◌≡◌, ◌⊎◌, ℕ, zero, suc, List, [], ◌∷◌, Option, Some, None, Result, Ok}
+use Rattle.std.specs.Prelude.{Err}
 use Rattle.urb_client.specs.declared.response.Response.{Response}
 use Rattle.urb_client.specs.Requests.{Asked}
 use Rattle.urb_client.specs.Responses.{Said, said_by}
+use Rattle.urb_cli.specs.CallFaults.{IsNoMemory}
+use Rattle.urb_cli.specs.ClientOutput.{Shown}
+use Rattle.urb_cli.specs.declared.client.call_fault.CallFault.{CallFault}
+use Rattle.urb_cli.specs.declared.client.call_fault.CallFault.TheVariants.{BadReply}
+use Rattle.urb_cli.specs.declared.client.caller.TheConstants.{TRIES}
 
 -- what a call was answered: its response, or nothing
 abbrev pub answer_of : {A E : Type 0} → Result (Response A) E → Option Said
@@ -27,3 +33,18 @@ abbrev pub Insists : {S : Type 0} → (S → Asked → Option Said → S → Typ
     → Option Said → S → Type 0
 Insists {S} calls asked old answer new =
     (failures : ℕ) × (mid : S) × Fails calls asked old failures mid × calls mid asked answer new
+
+-- A request is given up with this fault. Memory was refused, or each of TRIES calls and one more had
+-- no response.
+abbrev pub GivesUp : {S : Type 0} → (S → Asked → Option Said → S → Type 0) → Asked → S → CallFault
+    → S → Type 0
+GivesUp calls asked old why new = IsNoMemory why ⊎ Fails calls asked old (suc TRIES) new
+
+-- A request has no response that shows anything, for this reason. It is given up, or the response is
+-- of another kind.
+abbrev pub GetsNothing : {S : Type 0} → (S → Asked → Option Said → S → Type 0)
+    → (Said → Option Shown) → Asked → S → CallFault → S → Type 0
+GetsNothing calls shows asked old why new =
+    GivesUp calls asked old why new
+    ⊎ ((said : Said) × Insists calls asked old (Some said) new × (shows said ≡ None)
+    × (why ≡ BadReply))

@@ -1,15 +1,14 @@
 -- What a client's commands show.
-use Rattle.std.specs.Prelude.{◌≡◌, ◌⊎◌, ◌+◌, ℕ, ◌==◌, ◌/◌, ◌%◌, nat_lt, List, [], ◌∷◌, ◌++◌, length}
+use Rattle.std.specs.Prelude.{◌≡◌, ◌+◌, ℕ, ◌==◌, ◌/◌, ◌%◌, nat_lt, List, [], ◌∷◌, ◌++◌, length}
 use Rattle.std.specs.Prelude.{flat_map, Option, Some, None, if◌then◌else◌, codes}
 use Rattle.std.specs.Fmt.{decimal}
 use Rattle.urb_options.specs.Addresses.{Address}
-use Rattle.urb_cli.specs.AddressTexts.{address_text}
+use Rattle.urb_cli.specs.AskedAddresses.{address_text}
 use Rattle.urb_cli.specs.Advice.{explained_refusal}
 use Rattle.urb_client.specs.declared.response.NodeState.{NodeState}
 use Rattle.urb_client.specs.declared.response.NodeState.TheVariants as state
 use Rattle.urb_names.specs.LabelsAndContents.{Label, Content}
-use Rattle.urb_client.specs.Responses.{Said, encoding}
-use Rattle.urb_client.specs.MissingResponses.{HasNoResponse}
+use Rattle.urb_client.specs.Responses.{Said}
 use Rattle.urb_cli.specs.declared.client.printed.Printed.{Printed}
 use Rattle.urb_client.specs.Responses as said
 
@@ -89,15 +88,3 @@ status_shown at _ = None
 -- this is shown for some response
 abbrev pub IsShown : (Said → Option Shown) → Shown → Type 0
 IsShown shows shown = (answer : Said) × (shows answer ≡ Some shown)
-
--- the bytes begin with a response, and this is shown for it
-abbrev pub ShowsAs : (Said → Option Shown) → Shown → List ℕ → Type 0
-ShowsAs shows shown input =
-    (answer : Said) × (rest : List ℕ) × (input ≡ encoding answer ++ rest)
-    × (shows answer ≡ Some shown)
-
--- the bytes begin with no response, or with one that shows nothing
-abbrev pub ShowsNothing : (Said → Option Shown) → List ℕ → Type 0
-ShowsNothing shows input =
-    HasNoResponse input ⊎ ((answer : Said) × (rest : List ℕ) × (input ≡ encoding answer ++ rest)
-    × (shows answer ≡ None))

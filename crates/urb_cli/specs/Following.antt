@@ -1,12 +1,16 @@
 -- What `urbd follow` does.
-use Rattle.std.specs.Prelude.{◌≡◌, ℕ, ◌+◌, List, [], ◌∷◌, length, flat_map, Option, Some, None}
+use Rattle.std.specs.Prelude.{◌≡◌, ◌⊎◌, ℕ, ◌+◌, ◌<◌, List, [], ◌∷◌, length, flat_map, Option, Some}
+use Rattle.std.specs.Prelude.{None}
 use Rattle.std.specs.Io.KnownBytes.{Appends}
 use Rattle.urb_names.specs.LabelsAndContents.{Label, Content}
 use Rattle.urb_client.specs.Requests.{Asked, Read, Wait}
 use Rattle.urb_client.specs.Responses.{Said, Listing, Refused}
 use Rattle.urb_cli.specs.Advice.{explained_refusal}
-use Rattle.urb_cli.specs.Calls.{Insists, Steps}
-use Rattle.urb_cli.specs.Streams.{MayPrint}
+use Rattle.urb_cli.specs.Calls.{GetsNothing, Insists, Steps}
+use Rattle.urb_cli.specs.ClientOutput.{read_shown}
+use Rattle.urb_cli.specs.Streams.{IsUnwritten}
+use Rattle.urb_cli.specs.declared.client.call_fault.CallFault.{CallFault}
+use Rattle.urb_cli.specs.declared.client.stream_fault.StreamFault.TheVariants as fault
 use Rattle.urb_cli.specs.declared.client.stream_fault.StreamFault.{StreamFault}
 
 -- how far a follower is: its caller, the next place of the log, and the bytes of its output
@@ -26,6 +30,20 @@ abbrev pub IsAnswered : {C : Type 0} → (C → Asked → Option Said → C → 
     → C → Type 0
 IsAnswered calls old place answer new =
     (asked : Asked) × IsFrom place asked × Insists calls asked old answer new
+
+-- Why a follower breaks off after its last page. The node, asked for the log from the next place on,
+-- gave no response to a read; or what it gave could not be printed; or its page ends after the last
+-- place of any log.
+abbrev pub StopsAfter : {C : Type 0} → (C → Asked → Option Said → C → Type 0) → Reader C
+    → StreamFault → C → Option (List ℕ) → Type 0
+StopsAfter calls last why caller output =
+    ((asked : Asked) × (broken : CallFault) × IsFrom last.place asked × (why ≡ fault.Call broken)
+    × GetsNothing calls read_shown asked last.caller broken caller × (output ≡ last.output))
+    ⊎ ((said : Said) × IsAnswered calls last.caller last.place (Some said) caller
+    × IsUnwritten why last.output output)
+    ⊎ ((page : List (Label × Content))
+    × IsAnswered calls last.caller last.place (Some (Listing page)) caller × (why ≡ fault.AtEnd)
+    × (4294967295 < last.place + length page) × (output ≡ last.output))
 
 module _ {C : Type 0} (calls : C → Asked → Option Said → C → Type 0)
     (line : Label × Content → List ℕ) where
@@ -56,8 +74,11 @@ module _ {C : Type 0} (calls : C → Asked → Option Said → C → Type 0)
       × IsAnswered calls last.caller last.place (Some (Refused number detail)) new_caller
       × Appends last.output new_output (explained_refusal number detail)
 
-  -- it breaks off with this fault after the lines of all pages
-  abbrev pub BreaksOffAfter : C → ℕ → Option (List ℕ) → StreamFault → Option (List ℕ) → Type 0
-  BreaksOffAfter caller place output why new_output =
+  -- It breaks off with this fault after the lines of all pages. Or it has had as many responses as
+  -- it counts.
+  abbrev pub BreaksOffAfter : C → ℕ → Option (List ℕ) → StreamFault → C → Option (List ℕ) → Type 0
+  BreaksOffAfter caller place output why new_caller new_output =
       (answers : List Said) × (last : Reader C) × Follows caller place output answers last
-      × MayPrint why last.output new_output
+      × (StopsAfter calls last why new_caller new_output
+      ⊎ ((why ≡ fault.AtEnd) × (length answers ≡ 18446744073709551615)
+      × (new_output ≡ last.output)))

@@ -1,5 +1,7 @@
-pub mod AddressTexts
 pub mod Advice
+pub mod AskedAddresses
+pub mod Asking
+pub mod CallFaults
 pub mod Calls
 pub mod ClientOutput
 pub mod EntryForms

@@ -7,9 +7,14 @@ use Rattle.urb_names.specs.declared.limits.TheConstants.{MAX_PAYLOAD}
 use Rattle.urb_client.specs.Requests.{Asked, Submit}
 use Rattle.urb_client.specs.Responses.{Said, Accepted, Refused}
 use Rattle.urb_cli.specs.Advice.{explained_refusal}
-use Rattle.urb_cli.specs.ClientOutput.{accepted_shown}
-use Rattle.urb_cli.specs.Calls.{Insists, Steps}
-use Rattle.urb_cli.specs.Streams.{MayPrint}
+use Rattle.urb_cli.specs.ClientOutput.{accepted_shown, submit_shown}
+use Rattle.urb_cli.specs.Calls.{GetsNothing, Insists, Steps}
+use Rattle.urb_cli.specs.Streams.{IsUnwritten, fault_of_text}
+use Rattle.urb_cli.specs.declared.client.call_fault.CallFault.{CallFault}
+use Rattle.urb_cli.specs.declared.client.call_fault.CallFault.TheVariants.{BadReply}
+use Rattle.urb_cli.specs.declared.client.stream_fault.TextFault.{TextFault}
+use Rattle.urb_cli.specs.declared.client.stream_fault.StreamFault.TheVariants as fault
+use Rattle.urb_names.specs.declared.refusal.NoMemory.{NoMemory}
 use Rattle.urb_cli.specs.declared.client.stream_fault.StreamEnd.{StreamEnd}
 use Rattle.urb_cli.specs.declared.client.stream_fault.StreamEnd.TheVariants as stream
 use Rattle.urb_cli.specs.declared.client.stream_fault.StreamFault.{StreamFault}
@@ -33,6 +38,15 @@ abbrev pub Gives : {T : Type 0} → (T → List ℕ → T → Type 0) → (T →
     → Bool → Type 0
 Gives gives ends old text new true = gives old text new
 Gives gives ends old text new false = ends old new
+
+-- A request to take a message got no decision, for this reason. The calls got no response to a
+-- submit; or memory was refused, and the fault has the witness of it.
+abbrev pub IsUndecided : {C : Type 0} → (C → Asked → Option Said → C → Type 0) → Asked → C
+    → StreamFault → C → Type 0
+IsUndecided calls asked old why new =
+    ((broken : CallFault) × (why ≡ fault.Call broken)
+    × GetsNothing calls submit_shown asked old broken new)
+    ⊎ ((refused : NoMemory) × (why ≡ fault.NoMemory refused))
 
 -- How far a publisher is: what gives its texts, its caller, the number of the next message, and the
 -- bytes of its output.
@@ -102,20 +116,42 @@ module _ {T C : Type 0} (gives : T → List ℕ → T → Type 0) (ends : T → 
       × Insists calls (Submit client 0 []) caller (Some (Refused number detail)) new_caller
       × WritesRefusal number detail output new_output
 
-  -- texts are published from here on, in order, and then it breaks off with this fault
-  abbrev pub BreaksOffAfter : Progress T C → StreamFault → Option (List ℕ) → Type 0
-  BreaksOffAfter old why new_output =
-      (done : List (List ℕ × ℕ)) × (last : Progress T C) × Steps IsPublished old done last
-      × MayPrint why last.output new_output
+  -- Why it breaks off after the last text that was published. It could not take the next text; or
+  -- the next text got no decision; or its line, or its refusal, could not be written; or there is no
+  -- next number.
+  abbrev pub StopsAfter : Progress T C → StreamFault → T → C → Option (List ℕ) → Type 0
+  StopsAfter last why texts caller output =
+      ((failed : TextFault) × (why ≡ fault_of_text failed) × (caller ≡ last.caller)
+      × (output ≡ last.output))
+      ⊎ ((text : List ℕ) × gives last.texts text texts
+      × IsUndecided calls (Submit client last.number text) last.caller why caller
+      × (output ≡ last.output))
+      ⊎ IsUnwritten why last.output output
+      ⊎ ((why ≡ fault.AtEnd) × (last.number ≡ 4294967295) × (output ≡ last.output))
 
-  -- It breaks off. Nothing is printed yet; or the node refused the question, and the refusal could
-  -- not be written; or the texts so far are published.
-  abbrev pub BreaksOff : T → C → Option (List ℕ) → StreamFault → Option (List ℕ) → Type 0
-  BreaksOff texts caller output why new_output =
-      (new_output ≡ output)
-      ⊎ ((number : ℕ) × (detail : ℕ) × (asked : C)
-      × Insists calls (Submit client 0 []) caller (Some (Refused number detail)) asked
-      × MayPrint why output new_output)
+  -- texts are published from here on, in order, and then it breaks off with this fault
+  abbrev pub BreaksOffAfter : Progress T C → StreamFault → T → C → Option (List ℕ) → Type 0
+  BreaksOffAfter old why texts caller output =
+      (done : List (List ℕ × ℕ)) × (last : Progress T C) × Steps IsPublished old done last
+      × StopsAfter last why texts caller output
+
+  -- It breaks off before the first text, and nothing is printed. The question for the next number
+  -- got no decision, or was accepted as if it were a message.
+  abbrev pub HasNoNumber : C → StreamFault → C → Type 0
+  HasNoNumber old why new =
+      IsUndecided calls (Submit client 0 []) old why new
+      ⊎ ((seq : ℕ) × Insists calls (Submit client 0 []) old (Some (Accepted seq)) new
+      × (why ≡ fault.Call BadReply))
+
+  -- It breaks off. It got no number; or the node refused the question, and the refusal could not be
+  -- written; or it stopped after some texts.
+  abbrev pub BreaksOff : T → C → Option (List ℕ) → StreamFault → T → C → Option (List ℕ) → Type 0
+  BreaksOff texts caller output why new_texts new_caller new_output =
+      (HasNoNumber caller why new_caller × (new_output ≡ output))
+      ⊎ ((number : ℕ) × (detail : ℕ)
+      × Insists calls (Submit client 0 []) caller (Some (Refused number detail)) new_caller
+      × IsUnwritten why output new_output)
       ⊎ ((first : ℕ) × (asked : C) × AsksNumber caller first asked
       × BreaksOffAfter
-      (record { texts = texts; caller = asked; number = first; output = output }) why new_output)
+      (record { texts = texts; caller = asked; number = first; output = output }) why new_texts
+      new_caller new_output)

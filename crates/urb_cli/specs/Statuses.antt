@@ -35,6 +35,9 @@ IsErrandsEnd (errand.Follow following) status = IsClientsEnd status
 
 -- the program's fault if a call of a node has no answer
 abbrev pub fault_of_call : CallFault → Fault
-fault_of_call call.NobodyListens = fault.Network
-fault_of_call call.NotConnected = fault.Network
-fault_of_call (call.Broken fault) = fault
+fault_of_call (call.NobodyListens refused) = fault.Network
+fault_of_call (call.NotConnected refused) = fault.Network
+fault_of_call (call.NoMemory refused) = fault.NoMemory
+fault_of_call (call.NotSent failed) = fault.Write
+fault_of_call (call.NotRead failed) = fault.Read
+fault_of_call call.BadReply = fault.BadReply

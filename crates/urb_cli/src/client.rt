@@ -2,6 +2,7 @@
 
 pub(crate) mod address_text;
 pub(crate) mod advice;
+pub(crate) mod asker;
 pub(crate) mod call_fault;
 pub(crate) mod caller;
 pub(crate) mod calls;
@@ -9,7 +10,9 @@ pub(crate) mod decision;
 pub(crate) mod entry_form;
 pub(crate) mod follow;
 pub(crate) mod follow_turn;
+pub(crate) mod node_asker;
 pub(crate) mod node_caller;
+pub(crate) mod node_stream;
 pub(crate) mod patient_stream;
 pub(crate) mod print;
 pub(crate) mod printed;

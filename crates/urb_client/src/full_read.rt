@@ -1,7 +1,7 @@
 //! One read that fills a buffer, as far as the input goes.
 
 ghost use Rattle.std.specs.Prelude.{◌≡◌, ◌<◌, ◌≤◌, take, length, IfOk, IfSome, IsErr, IsNone};
-ghost use Rattle.std.specs.Prelude.{Ok, OnErr};
+ghost use Rattle.std.specs.Prelude.{None, Ok, OnErr, option_to_list};
 ghost use Rattle.std.specs.Io.KnownBytes.{Consumes, IsAtEnd, Keeps};
 ghost use Rattle.urb_client.specs.internal.SessionPieces.{ReadsUnder};
 
@@ -77,4 +77,18 @@ pub fn read_full<R: Read>(reader: &mut R, buffer: &mut [u8]) -> Result<usize, Re
         filled += n;
     }
     Ok(filled)
+}
+
+/// Reads the next byte, or returns `None` at the end. A read that a signal interrupts is tried
+/// again.
+pub fn read_byte<R: Read>(reader: &mut R) -> Result<Option<u8>, ReadFailed>
+    ensures bytes { IfOk result
+        (λ next. Consumes (R.remaining reader.old) (R.remaining reader.new) (option_to_list next)) }
+    ensures end { IfOk result (λ next. next ≡ None → IsAtEnd (R.remaining reader.new)) }
+{
+    let mut byte = [0u8; 1];
+    if read_full(reader, &mut byte)? == 0 {
+        return Ok(None);
+    }
+    Ok(Some(byte[0]))
 }

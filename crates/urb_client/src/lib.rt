@@ -38,8 +38,8 @@ mod sessions;
 
 pub use buffered_answers::{BufferedAnswers, BufferedWriter, FlushingInput};
 pub use format::{MOST_ENTRIES, UNKNOWN_OPCODE};
-pub use frame_write::WriteFailed;
-pub use full_read::ReadFailed;
+pub use frame_write::{WriteFailed, write_frame};
+pub use full_read::{ReadFailed, read_byte};
 pub use pages::one_page_after_another;
 pub use request::{Control, Request, encode_request, parse_request};
 pub use response::{Entries, NodeState, Response, encode_response};

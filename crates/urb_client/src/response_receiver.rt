@@ -15,12 +15,13 @@ use thiserror::Error;
 use urb_names::NoMemory;
 
 /// Why there is no response: the reader failed, memory was refused, or what came is no response.
+/// The first two have their witnesses, so a body that met no such failure can't return them.
 #[derive(Clone, Copy, Debug, PartialEq, Eq, Error)]
 pub enum ResponseFault {
     #[error("read failed")]
-    Read,
+    Read(ReadFailed),
     #[error("no memory")]
-    NoMemory,
+    NoMemory(NoMemory),
     #[error("bad reply")]
     NoResponse,
 }
@@ -29,10 +30,10 @@ impl From<NoMemory> for ResponseFault {
     ghost use Rattle.std.specs.Prelude.{◌≡◌};
     ghost use Rattle.urb_client.specs.declared.response_receiver.ResponseFault.TheVariants.{NoMemory as no_memory};
 
-    ghost from_gives = { λ _ e. e ≡ no_memory };
+    ghost from_gives = { λ refused e. e ≡ no_memory refused };
 
-    fn from(_: NoMemory) -> ResponseFault {
-        ResponseFault::NoMemory
+    fn from(refused: NoMemory) -> ResponseFault {
+        ResponseFault::NoMemory(refused)
     }
 }
 
@@ -40,10 +41,10 @@ impl From<ReadFailed> for ResponseFault {
     ghost use Rattle.std.specs.Prelude.{◌≡◌};
     ghost use Rattle.urb_client.specs.declared.response_receiver.ResponseFault.TheVariants.{Read as read};
 
-    ghost from_gives = { λ _ e. e ≡ read };
+    ghost from_gives = { λ failed e. e ≡ read failed };
 
-    fn from(_: ReadFailed) -> ResponseFault {
-        ResponseFault::Read
+    fn from(failed: ReadFailed) -> ResponseFault {
+        ResponseFault::Read(failed)
     }
 }
 

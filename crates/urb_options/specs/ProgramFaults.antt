@@ -4,8 +4,6 @@ use Rattle.urb_names.specs.declared.refusal.Refusal.{Refusal}
 use Rattle.urb_names.specs.declared.refusal.Refusal.TheVariants as refusal
 use Rattle.urb_options.specs.declared.faults.Fault.{Fault}
 use Rattle.urb_options.specs.declared.faults.Fault.TheVariants as fault
-use Rattle.urb_client.specs.declared.response_receiver.ResponseFault.{ResponseFault}
-use Rattle.urb_client.specs.declared.response_receiver.ResponseFault.TheVariants as response
 use Rattle.urb_script.specs.declared.runs.RunFault.{RunFault}
 use Rattle.urb_script.specs.declared.runs.RunFault.TheVariants.{Read, Write, NoMemory}
 
@@ -14,12 +12,6 @@ abbrev pub fault_of_run : RunFault → Fault
 fault_of_run Read = fault.Read
 fault_of_run Write = fault.Write
 fault_of_run NoMemory = fault.NoMemory
-
--- the program's fault if there is no response
-abbrev pub fault_of_response : ResponseFault → Fault
-fault_of_response response.Read = fault.Read
-fault_of_response response.NoMemory = fault.NoMemory
-fault_of_response response.NoResponse = fault.BadReply
 
 -- the program's fault for a refusal at an opening
 abbrev pub fault_of_refusal : Refusal → Fault

@@ -4,7 +4,6 @@ ghost use Rattle.std.specs.Prelude.{◌≡◌};
 
 use std::alloc::AllocError;
 use thiserror::Error;
-use urb_client::ResponseFault;
 use urb_names::{NoMemory, Refusal};
 use urb_script::RunFault;
 
@@ -45,21 +44,6 @@ impl From<RunFault> for Fault {
             RunFault::Read => Fault::Read,
             RunFault::Write => Fault::Write,
             RunFault::NoMemory => Fault::NoMemory,
-        }
-    }
-}
-
-impl From<ResponseFault> for Fault {
-    ghost use Rattle.std.specs.Prelude.{◌≡◌};
-    ghost use Rattle.urb_options.specs.ProgramFaults.{fault_of_response};
-
-    ghost from_gives = { λ fault e. e ≡ fault_of_response fault };
-
-    fn from(fault: ResponseFault) -> Fault {
-        match fault {
-            ResponseFault::Read => Fault::Read,
-            ResponseFault::NoMemory => Fault::NoMemory,
-            ResponseFault::NoResponse => Fault::BadReply,
         }
     }
 }

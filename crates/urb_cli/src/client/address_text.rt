@@ -1,7 +1,7 @@
 //! The text of a node's address.
 
 ghost use Rattle.std.specs.Prelude.{◌≡◌, ◌++◌, OnOk};
-ghost use Rattle.urb_cli.specs.AddressTexts.{address_text};
+ghost use Rattle.urb_cli.specs.AskedAddresses.{address_text};
 ghost use Rattle.urb_options.specs.Addresses.{address_of};
 
 use crate::client::refused_write::refused_write;

@@ -3,40 +3,63 @@
 ghost use Rattle.std.specs.Prelude.{◌≡◌};
 ghost use Rattle.urb_cli.specs.Statuses.{fault_of_call};
 
+use crate::client::node_stream::NoConnection;
+use urb_client::{ReadFailed, ResponseFault, WriteFailed};
 use urb_names::NoMemory;
 use urb_options::{FAULT, Fault, NodeAddress};
 
-/// Why a call of a node on this machine has no answer.
+/// Why a call of a node on this machine has no answer. Each but `BadReply` has the witness of its
+/// cause, so a call that met no such failure can't end with it.
 #[derive(Clone, Copy, Debug, PartialEq, Eq)]
 pub enum CallFault {
     /// The system refused the connection, or there is no socket: nobody listens at the address.
-    NobodyListens,
-    /// The system made no connection, for another reason.
-    NotConnected,
-    /// The connection was made, and the call over it ended with this fault.
-    Broken(Fault),
-}
-
-impl From<Fault> for CallFault {
-    ghost use Rattle.std.specs.Prelude.{◌≡◌};
-    ghost use Rattle.urb_cli.specs.declared.client.call_fault.CallFault.TheVariants.{Broken as broken};
-
-    ghost from_gives = { λ fault e. e ≡ broken fault };
-
-    fn from(fault: Fault) -> CallFault {
-        CallFault::Broken(fault)
-    }
+    NobodyListens(NoConnection),
+    /// The system made no connection, for another reason, or set it no limit.
+    NotConnected(NoConnection),
+    /// Memory was refused, before the request was sent or after it.
+    NoMemory(NoMemory),
+    /// The request could not be written: nothing, a part or all of it may have been sent.
+    NotSent(WriteFailed),
+    /// The connection broke, or no answer came in time.
+    NotRead(ReadFailed),
+    /// What came is no response to the request.
+    BadReply,
 }
 
 impl From<NoMemory> for CallFault {
     ghost use Rattle.std.specs.Prelude.{◌≡◌};
-    ghost use Rattle.urb_cli.specs.declared.client.call_fault.CallFault.TheVariants.{Broken as broken};
-    ghost use Rattle.urb_options.specs.declared.faults.Fault.TheVariants.{NoMemory as no_memory};
+    ghost use Rattle.urb_cli.specs.declared.client.call_fault.CallFault.TheVariants.{NoMemory as no_memory};
 
-    ghost from_gives = { λ _ e. e ≡ broken no_memory };
+    ghost from_gives = { λ refused e. e ≡ no_memory refused };
 
-    fn from(_: NoMemory) -> CallFault {
-        CallFault::Broken(Fault::NoMemory)
+    fn from(refused: NoMemory) -> CallFault {
+        CallFault::NoMemory(refused)
+    }
+}
+
+impl From<WriteFailed> for CallFault {
+    ghost use Rattle.std.specs.Prelude.{◌≡◌};
+    ghost use Rattle.urb_cli.specs.declared.client.call_fault.CallFault.TheVariants.{NotSent as not_sent};
+
+    ghost from_gives = { λ failed e. e ≡ not_sent failed };
+
+    fn from(failed: WriteFailed) -> CallFault {
+        CallFault::NotSent(failed)
+    }
+}
+
+impl From<ResponseFault> for CallFault {
+    ghost use Rattle.std.specs.Prelude.{◌≡◌};
+    ghost use Rattle.urb_cli.specs.CallFaults.{fault_of_response};
+
+    ghost from_gives = { λ fault e. e ≡ fault_of_response fault };
+
+    fn from(fault: ResponseFault) -> CallFault {
+        match fault {
+            ResponseFault::Read(failed) => CallFault::NotRead(failed),
+            ResponseFault::NoMemory(refused) => CallFault::NoMemory(refused),
+            ResponseFault::NoResponse => CallFault::BadReply,
+        }
     }
 }
 
@@ -46,20 +69,23 @@ impl CallFault {
         ensures { result ≡ fault_of_call self }
     {
         match self {
-            CallFault::NobodyListens | CallFault::NotConnected => Fault::Network,
-            CallFault::Broken(fault) => fault,
+            CallFault::NobodyListens(_) | CallFault::NotConnected(_) => Fault::Network,
+            CallFault::NoMemory(_) => Fault::NoMemory,
+            CallFault::NotSent(_) => Fault::Write,
+            CallFault::NotRead(_) => Fault::Read,
+            CallFault::BadReply => Fault::BadReply,
         }
     }
 
     // What went wrong. The address of the node follows these words.
     fn cause(self) -> &'static str {
         match self {
-            CallFault::NobodyListens => "nobody listens at",
-            CallFault::NotConnected => "the system made no connection to",
-            CallFault::Broken(Fault::Read) => "the connection broke, or no answer came from",
-            CallFault::Broken(Fault::Write) => "the request was not sent whole to",
-            CallFault::Broken(Fault::BadReply) => "no whole response came from",
-            CallFault::Broken(_) => "the call ended early, of",
+            CallFault::NobodyListens(_) => "nobody listens at",
+            CallFault::NotConnected(_) => "the system made no connection to",
+            CallFault::NoMemory(_) => "the call ended early, of",
+            CallFault::NotSent(_) => "the request was not sent whole to",
+            CallFault::NotRead(_) => "the connection broke, or no answer came from",
+            CallFault::BadReply => "no whole response came from",
         }
     }
 }

@@ -3,12 +3,12 @@
 ghost use Rattle.std.specs.Prelude.{◌≡◌, ◌⊎◌, ℕ, false, suc, IfErr, Option};
 ghost use Rattle.urb_client.specs.Requests.{Asked, IsAsked, IsShort, asked_by};
 ghost use Rattle.urb_client.specs.Responses.{Said};
-ghost use Rattle.urb_cli.specs.Calls.{Fails, Insists, answer_of};
+ghost use Rattle.urb_cli.specs.CallFaults.{IsNoMemory};
+ghost use Rattle.urb_cli.specs.Calls.{GivesUp, Insists, answer_of};
 ghost use Rattle.urb_cli.specs.declared.client.caller.TheConstants.{TRIES};
 
 use crate::client::call_fault::CallFault;
 use urb_client::{Request, Response};
-use urb_options::Fault;
 
 /// How often a request without a response is sent again before the last try. Between two tries
 /// there is a pause.
@@ -33,9 +33,9 @@ pub trait Caller {
 
 // Whether the same call may have a response a moment later.
 fn may_pass(fault: CallFault) -> bool
-    ensures { result ≡ false → fault ≡ CallFault.Broken Fault.NoMemory }
+    ensures { result ≡ false → IsNoMemory fault }
 {
-    !matches!(&fault, CallFault::Broken(Fault::NoMemory))
+    !matches!(&fault, CallFault::NoMemory(_))
 }
 
 /// Sends a request until there is a response, with a pause after each call without one. It is the
@@ -46,9 +46,8 @@ pub(crate) fn insist<C: Caller>(caller: &mut C, request: &Request) -> Result<Res
     requires short { IsShort (asked_by request.now) }
     ensures same { Insists C.calls (asked_by request.now) caller.old (answer_of result) caller.new }
     // It gives up only after `TRIES` calls without a response and one more, or without memory.
-    ensures patience { IfErr result (λ fault. (fault ≡ CallFault.Broken Fault.NoMemory)
-        ⊎ ((n : ℕ) × (n ≡ suc TRIES)
-        × Fails C.calls (asked_by request.now) caller.old n caller.new)) }
+    ensures patience { IfErr result
+        (λ why. GivesUp C.calls (asked_by request.now) caller.old why caller.new) }
 {
     for _ in 0..TRIES {
         let outcome = caller.call(request);

@@ -1,23 +1,24 @@
 //! The command `follow`: the entries of a node's log, as they come.
 
-ghost use Rattle.std.specs.Prelude.{◌≡◌, ◌<◌, ◌+◌, IfOk, IfErr, IfSome, OnOk, flat_map};
+ghost use Rattle.std.specs.Prelude.{◌≡◌, ◌<◌, ◌+◌, IfOk, IfErr, MatchOption, OnOk, flat_map};
 ghost use Rattle.std.specs.Prelude.{length};
 ghost use Rattle.std.specs.Io.KnownBytes.{Appends};
-ghost use Rattle.urb_client.specs.Requests.{IsAsked, IsShort, asked_by};
-ghost use Rattle.urb_client.specs.Responses.{Listing, said_by};
-ghost use Rattle.urb_cli.specs.Calls.{Insists, answer_of};
+ghost use Rattle.urb_client.specs.Requests.{Asked, IsAsked, IsShort, asked_by};
+ghost use Rattle.urb_client.specs.Responses.{said_by};
+ghost use Rattle.urb_cli.specs.Calls.{GivesUp, answer_of};
 ghost use Rattle.urb_cli.specs.EntryForms.{form_line};
 ghost use Rattle.urb_cli.specs.Following.{BreaksOffAfter, IsAnswered, IsFrom, IsRefusedAfter};
+ghost use Rattle.urb_cli.specs.Following.{StopsAfter};
 ghost use Rattle.urb_cli.specs.Statuses.{IsClientsEnd};
-ghost use Rattle.urb_cli.specs.Streams.{MayPrint};
-ghost use Rattle.urb_cli.specs.internal.Following.{IsPrinted, Turns};
+ghost use Rattle.urb_cli.specs.Streams.{IsUnwritten};
+ghost use Rattle.urb_cli.specs.internal.Following.{IsPageUnwritten, IsPrinted, IsUnprinted, Turns};
 
 use crate::client::call_fault::CallFault;
 use crate::client::caller::{Caller, insist};
-use crate::client::calls::{PATIENCE, send};
 use crate::client::entry_form::push_page_in;
 use crate::client::follow_turn::FollowTurn;
 use crate::client::node_caller::NodeCaller;
+use crate::client::patient_stream::PATIENCE;
 use crate::client::publish::write_refusal;
 use crate::client::stream_end::report_stream_end;
 use crate::client::stream_fault::{StreamEnd, StreamFault};
@@ -26,9 +27,9 @@ use std::io;
 use std::io::Write;
 use std::net::{Net, TcpListener, TcpStream};
 use std::time::Clock;
-use urb_client::{MOST_ENTRIES, Request, Response};
+use urb_client::{MOST_ENTRIES, Request, Response, write_frame};
 use urb_names::{Message, Name};
-use urb_options::{EntryForm, Fault, FollowOptions};
+use urb_options::{EntryForm, FollowOptions};
 
 /// How long a node may wait for the next entry before it answers, in milliseconds.
 const WAIT_MILLIS: u16 = 5_000;
@@ -67,17 +68,19 @@ fn write_page<W: Write>(
     ensures ok { OnOk result (Appends (W.contents writer.old) (W.contents writer.new)
         (flat_map (form_line form) page.now)) }
     ensures err { IfErr result
-        (λ fault. MayPrint fault (W.contents writer.old) (W.contents writer.new)) }
+        (λ why. IsUnwritten why (W.contents writer.old) (W.contents writer.new)) }
 {
     let mut text = Vec::new(alloc);
     push_page_in(alloc, &mut text, form, page)?;
-    Ok(send(writer, text.as_slice())?)
+    Ok(write_frame(writer, text.as_slice())?)
 }
 
 // Asks for the log from this place on, until there is a response.
 fn ask_page<C: Caller>(caller: &mut C, place: u32, knows_wait: bool) -> Result<Response, CallFault>
     requires { 0 < place }
-    ensures { IsAnswered C.calls caller.old place (answer_of result) caller.new }
+    ensures answer { IsAnswered C.calls caller.old place (answer_of result) caller.new }
+    ensures err { IfErr result (λ why. (asked : Asked) × IsFrom place asked
+        × GivesUp C.calls asked caller.old why caller.new) }
 {
     let request = make_page_request(place, knows_wait);
     insist(caller, &request)
@@ -85,7 +88,7 @@ fn ask_page<C: Caller>(caller: &mut C, place: u32, knows_wait: bool) -> Result<R
 
 // The place after a page of `count` entries that begins at `place`. `None`: no log is that long.
 fn find_place_after(place: u32, count: usize) -> Option<u32>
-    ensures { IfSome result (λ next. next ≡ place + count) }
+    ensures { MatchOption result (u32.MAX < place + count) (λ next. next ≡ place + count) }
 {
     let next = (place as usize).checked_add(count)?;
     if next <= u32::MAX as usize {
@@ -95,7 +98,7 @@ fn find_place_after(place: u32, count: usize) -> Option<u32>
     }
 }
 
-// Writes the lines of a page, and returns the place after it. `BadReply`: no log is so long.
+// Writes the lines of a page, and returns the place after it. `AtEnd`: no log is so long.
 fn write_page_from<W: Write>(
     alloc: Global,
     writer: &mut W,
@@ -106,10 +109,11 @@ fn write_page_from<W: Write>(
     ensures ok { IfOk result (λ next. (next ≡ place + length page.now)
         × Appends (W.contents writer.old) (W.contents writer.new) (flat_map (form_line form) page.now)) }
     ensures err { IfErr result
-        (λ fault. MayPrint fault (W.contents writer.old) (W.contents writer.new)) }
+        (λ why. IsPageUnwritten place (length page.now) (W.contents writer.old) why
+        (W.contents writer.new)) }
 {
     let Some(next) = find_place_after(place, page.len()) else {
-        return Err(StreamFault::Own(Fault::BadReply));
+        return Err(StreamFault::AtEnd);
     };
     write_page(alloc, writer, form, page)?;
     Ok(next)
@@ -127,8 +131,8 @@ fn print_response<W: Write>(
     requires { 0 < place }
     ensures turn { IfOk result (λ turn. IsPrinted (form_line form) place (W.contents writer.old)
         (said_by response.now) turn (W.contents writer.new)) }
-    ensures err { IfErr result
-        (λ fault. MayPrint fault (W.contents writer.old) (W.contents writer.new)) }
+    ensures err { IfErr result (λ why. IsUnprinted place (W.contents writer.old)
+        (said_by response.now) why (W.contents writer.new)) }
 {
     match response {
         Response::Entries(entries) => {
@@ -142,7 +146,7 @@ fn print_response<W: Write>(
             write_refusal(alloc, writer, *number, *detail)?;
             Ok(FollowTurn::Refused)
         }
-        _ => Err(StreamFault::Call(CallFault::Broken(Fault::BadReply))),
+        _ => Err(StreamFault::Call(CallFault::BadReply)),
     }
 }
 
@@ -159,8 +163,9 @@ fn take_turn<C: Caller, W: Write>(
     ensures turn { IfOk result (λ turn. Turns C.calls (form_line form)
         (record { caller = caller.old; place = place; output = W.contents writer.old }) turn
         caller.new (W.contents writer.new)) }
-    ensures err { IfErr result
-        (λ fault. MayPrint fault (W.contents writer.old) (W.contents writer.new)) }
+    ensures err { IfErr result (λ why. StopsAfter C.calls
+        (record { caller = caller.old; place = place; output = W.contents writer.old }) why
+        caller.new (W.contents writer.new)) }
 {
     let response = ask_page(caller, place, knows_wait)?;
     print_response(alloc, writer, form, place, knows_wait, &response)
@@ -170,8 +175,8 @@ fn take_turn<C: Caller, W: Write>(
 /// more. A node that doesn't know that is asked again and again, with pauses. It ends when the
 /// output can't be written, when the node refuses, or when the node gives no response.
 ///
-/// `Call`: the node gave no response, or none to a read. `Own`: a line could not be written, or
-/// memory was refused.
+/// `Call`: the node gave no response, or none to a read. `Output`: a line could not be written.
+/// `NoMemory`: memory was refused. `AtEnd`: there is no next place, or no next turn.
 pub fn follow_over<C: Caller, W: Write>(
     alloc: Global,
     caller: &mut C,
@@ -184,8 +189,9 @@ pub fn follow_over<C: Caller, W: Write>(
     ensures refused { IfOk result (λ ended. (ended ≡ StreamEnd.Refused)
         × IsRefusedAfter C.calls (form_line form) caller.old from (W.contents writer.old)
         caller.new (W.contents writer.new)) }
+    // It breaks off only for a cause: the calls got no page, or the fault has the witness of it.
     ensures broken { IfErr result (λ fault. BreaksOffAfter C.calls (form_line form) caller.old from
-        (W.contents writer.old) fault (W.contents writer.new)) }
+        (W.contents writer.old) fault caller.new (W.contents writer.new)) }
 {
     let (mut place, mut knows_wait) = (from, true);
     for _ in 0..u64::MAX {
@@ -200,7 +206,7 @@ pub fn follow_over<C: Caller, W: Write>(
             FollowTurn::Refused => return Ok(StreamEnd::Refused),
         }
     }
-    Err(StreamFault::Own(Fault::Read))
+    Err(StreamFault::AtEnd)
 }
 
 /// Does `urbd follow`, and returns the program's status: 4 if the node refused, 1 after a fault.

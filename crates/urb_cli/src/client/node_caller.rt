@@ -1,11 +1,11 @@
 //! The caller of the program: it asks a node at an address of this machine.
 
-ghost use Rattle.std.specs.Prelude.{◌≡◌};
+ghost use Rattle.std.specs.Prelude.{◌≡◌, IfSome};
 ghost use Rattle.urb_client.specs.Requests.{IsAsked, IsShort, asked_by};
 
 use crate::client::call_fault::CallFault;
 use crate::client::caller::Caller;
-use crate::client::calls::{connect_patiently, exchange};
+use crate::client::node_asker::ask_patiently;
 use crate::client::patient_stream::PatientStream;
 use std::alloc::Global;
 use std::net::{Net, TcpListener, TcpStream};
@@ -23,13 +23,14 @@ pub(crate) struct NodeCaller<'a, R: Clock + Net<Listener = TcpListener, Stream =
     rt: &'a R,
     alloc: Global,
     at: NodeAddress<'a>,
-    stream: Option<PatientStream>,
+    stream: Option<PatientStream<'a>>,
 }
 
 impl<'a, R: Clock + Net<Listener = TcpListener, Stream = TcpStream>> NodeCaller<'a, R> {
     /// A caller of the node at this address, without a connection yet.
     pub(crate) fn new(rt: &'a R, alloc: Global, at: NodeAddress<'a>) -> NodeCaller<'a, R>
-        ensures { result.at ≡ at.entry }
+        ensures at { result.at ≡ at.entry }
+        ensures kept { IfSome result.stream (λ kept. kept.stream.at ≡ result.at) }
     {
         NodeCaller {
             rt,
@@ -40,32 +41,15 @@ impl<'a, R: Clock + Net<Listener = TcpListener, Stream = TcpStream>> NodeCaller<
     }
 }
 
-// Asks over the connection that there is, or over a new one. Returns the connection too.
-fn call_over<R: Net<Listener = TcpListener, Stream = TcpStream>>(
-    rt: &R,
-    alloc: Global,
-    at: NodeAddress<'_>,
-    kept: Option<PatientStream>,
-    request: &Request,
-) -> Result<(PatientStream, Response), CallFault>
-    requires values { IsAsked (asked_by request.now) }
-    requires short { IsShort (asked_by request.now) }
-{
-    let stream = match kept {
-        Some(stream) => stream,
-        None => connect_patiently(rt, at)?,
-    };
-    let response = exchange(alloc, &mut stream.ends(), &mut stream.ends(), request)?;
-    Ok((stream, response))
-}
-
 impl<'a, R: Clock + Net<Listener = TcpListener, Stream = TcpStream>> Caller for NodeCaller<'a, R> {
-    // It always asks at the same address.
-    ghost calls = { λ old asked answer new. new.at ≡ old.at };
+    // It always asks at the same address: the connection that it keeps stays one to that node.
+    ghost calls = { λ old asked answer new. (new.at ≡ old.at)
+        × (IfSome old.stream (λ kept. kept.stream.at ≡ old.at)
+        → IfSome new.stream (λ kept. kept.stream.at ≡ new.at)) };
 
     fn call(&mut self, request: &Request) -> Result<Response, CallFault> {
         let kept = self.stream.take();
-        let (stream, response) = call_over(self.rt, self.alloc, self.at, kept, request)?;
+        let (stream, response) = ask_patiently(self.rt, self.alloc, self.at, kept, request)?;
         self.stream = Some(stream);
         Ok(response)
     }

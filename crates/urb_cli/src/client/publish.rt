@@ -1,22 +1,22 @@
 //! The command `publish`: messages that the program numbers by itself, one after the other.
 
-ghost use Rattle.std.specs.Prelude.{◌≡◌, ◌⊎◌, ◌<◌, ◌≤◌, ◌+◌, IfOk, IfErr, Ok, Err, OnOk, length};
-ghost use Rattle.std.specs.Prelude.{Some, []};
+ghost use Rattle.std.specs.Prelude.{◌≡◌, ◌⊎◌, ◌<◌, ◌≤◌, ◌+◌, IfOk, IfErr, OnOk, length};
+ghost use Rattle.std.specs.Prelude.{None, Some, []};
 ghost use Rattle.std.specs.Io.KnownBytes.{Appends};
 ghost use Rattle.urb_client.specs.Requests.{IsAsked, IsShort, Submit as AskSubmit, asked_by};
 ghost use Rattle.urb_client.specs.Responses.{said_by};
 ghost use Rattle.urb_cli.specs.Advice.{explained_refusal};
-ghost use Rattle.urb_cli.specs.Calls.{Insists};
-ghost use Rattle.urb_cli.specs.ClientOutput.{accepted_shown};
-ghost use Rattle.urb_cli.specs.Publishing.{BreaksOff, BreaksOffAfter, IsRefusedAtOnce, Publishes};
+ghost use Rattle.urb_cli.specs.Calls.{GetsNothing, Insists};
+ghost use Rattle.urb_cli.specs.ClientOutput.{accepted_shown, submit_shown};
+ghost use Rattle.urb_cli.specs.Publishing.{BreaksOff, BreaksOffAfter, IsRefusedAtOnce, IsUndecided};
+ghost use Rattle.urb_cli.specs.Publishing.{Publishes, StopsAfter};
 ghost use Rattle.urb_cli.specs.internal.Publishing.{GoesOn, Turns, decided};
 ghost use Rattle.urb_cli.specs.Statuses.{IsClientsEnd};
-ghost use Rattle.urb_cli.specs.Streams.{MayPrint};
+ghost use Rattle.urb_cli.specs.Streams.{IsUnwritten};
 
 use crate::client::advice::{GAP, push_refusal};
 use crate::client::call_fault::CallFault;
 use crate::client::caller::{Caller, insist};
-use crate::client::calls::send;
 use crate::client::decision::Decision;
 use crate::client::node_caller::NodeCaller;
 use crate::client::print::render_accepted;
@@ -28,9 +28,9 @@ use std::io;
 use std::io::Write;
 use std::net::{Net, TcpListener, TcpStream};
 use std::time::Clock;
-use urb_client::{Request, Response};
-use urb_names::{ClientId, MAX_PAYLOAD, Payload, Refusal};
-use urb_options::{Fault, NodeAddress, PublishOptions};
+use urb_client::{Request, Response, write_frame};
+use urb_names::{ClientId, MAX_PAYLOAD, NoMemory, Payload, Refusal};
+use urb_options::{NodeAddress, PublishOptions};
 
 // The request of a submit.
 fn make_message_request(
@@ -38,7 +38,7 @@ fn make_message_request(
     client: u16,
     number: u32,
     text: &[u8],
-) -> Result<Request, Fault>
+) -> Result<Request, NoMemory>
     requires client { 0 < client }
     requires short { length text.now ≤ MAX_PAYLOAD }
     ensures asked { IfOk result
@@ -49,9 +49,7 @@ fn make_message_request(
     let Some(client) = ClientId::new(client) else {
         unreachable!()
     };
-    let Ok(payload) = Payload::copied(alloc, text) else {
-        return Err(Fault::NoMemory);
-    };
+    let payload = Payload::copied(alloc, text)?;
     Ok(Request::Submit {
         client,
         number,
@@ -61,13 +59,28 @@ fn make_message_request(
 
 // What a response to a submit decides. `BadReply`: it is no response to a submit.
 fn judge_response(response: &Response) -> Result<Decision, CallFault>
-    ensures { IfOk result (λ decision. decided decision ≡ said_by response.now) }
+    ensures ok { IfOk result (λ decision. decided decision ≡ said_by response.now) }
+    ensures err { IfErr result
+        (λ why. (submit_shown (said_by response.now) ≡ None) × (why ≡ CallFault.BadReply)) }
 {
     match response {
         Response::Accepted(seq) => Ok(Decision::Accepted(*seq)),
         Response::Refused { number, detail } => Ok(Decision::Refused(*number, *detail)),
-        _ => Err(CallFault::Broken(Fault::BadReply)),
+        _ => Err(CallFault::BadReply),
     }
+}
+
+// Sends the request of a submit until the node has decided.
+fn ask_to_decide<C: Caller>(caller: &mut C, request: &Request) -> Result<Decision, CallFault>
+    requires values { IsAsked (asked_by request.now) }
+    requires short { IsShort (asked_by request.now) }
+    ensures ok { IfOk result (λ decision. Insists C.calls (asked_by request.now)
+        caller.old (Some (decided decision)) caller.new) }
+    ensures err { IfErr result (λ why. GetsNothing C.calls submit_shown (asked_by request.now)
+        caller.old why caller.new) }
+{
+    let response = insist(caller, request)?;
+    judge_response(&response)
 }
 
 // Sends a message until the node has decided: the same client, number and text each time.
@@ -80,12 +93,13 @@ fn submit_until_decided<C: Caller>(
 ) -> Result<Decision, StreamFault>
     requires client { 0 < client }
     requires short { length text.now ≤ MAX_PAYLOAD }
-    ensures { IfOk result (λ decision. Insists C.calls (AskSubmit client number text.now)
+    ensures ok { IfOk result (λ decision. Insists C.calls (AskSubmit client number text.now)
         caller.old (Some (decided decision)) caller.new) }
+    ensures err { IfErr result (λ why. IsUndecided C.calls (AskSubmit client number text.now)
+        caller.old why caller.new) }
 {
     let request = make_message_request(alloc, client, number, text)?;
-    let response = insist(caller, &request)?;
-    Ok(judge_response(&response)?)
+    Ok(ask_to_decide(caller, &request)?)
 }
 
 // Writes the line of a message that was accepted, under the name with this number.
@@ -93,10 +107,10 @@ fn write_accepted<W: Write>(alloc: Global, writer: &mut W, seq: u32) -> Result<(
     ensures ok { OnOk result
         (Appends (W.contents writer.old) (W.contents writer.new) (accepted_shown seq).0) }
     ensures err { IfErr result
-        (λ fault. MayPrint fault (W.contents writer.old) (W.contents writer.new)) }
+        (λ why. IsUnwritten why (W.contents writer.old) (W.contents writer.new)) }
 {
     let shown = render_accepted(alloc, seq)?;
-    Ok(send(writer, shown.text.as_slice())?)
+    Ok(write_frame(writer, shown.text.as_slice())?)
 }
 
 /// Writes the line of a refusal, with its advice.
@@ -109,11 +123,11 @@ pub(crate) fn write_refusal<W: Write>(
     ensures ok { OnOk result
         (Appends (W.contents writer.old) (W.contents writer.new) (explained_refusal number detail)) }
     ensures err { IfErr result
-        (λ fault. MayPrint fault (W.contents writer.old) (W.contents writer.new)) }
+        (λ why. IsUnwritten why (W.contents writer.old) (W.contents writer.new)) }
 {
     let mut text = Vec::new(alloc);
     push_refusal(&mut text, number, detail)?;
-    Ok(send(writer, text.as_slice())?)
+    Ok(write_frame(writer, text.as_slice())?)
 }
 
 // Publishes the next text under this number. Returns how the command ends, if it does.
@@ -129,8 +143,9 @@ fn publish_next<T: Texts, C: Caller, W: Write>(
     ensures ok { IfOk result (λ ended. Turns T.gives T.ends C.calls client
         (record { texts = texts.old; caller = caller.old; number = number; output = W.contents writer.old })
         ended texts.new caller.new (W.contents writer.new)) }
-    ensures err { IfErr result
-        (λ fault. MayPrint fault (W.contents writer.old) (W.contents writer.new)) }
+    ensures err { IfErr result (λ why. StopsAfter T.gives T.ends C.calls client
+        (record { texts = texts.old; caller = caller.old; number = number; output = W.contents writer.old })
+        why texts.new caller.new (W.contents writer.new)) }
 {
     let mut text = Vec::new(alloc);
     if !texts.next_text(&mut text)? {
@@ -168,7 +183,7 @@ fn publish_from<T: Texts, C: Caller, W: Write>(
         ended texts.new caller.new (W.contents writer.new)) }
     ensures broken { IfErr result (λ fault. BreaksOffAfter T.gives T.ends C.calls client
         (record { texts = texts.old; caller = caller.old; number = first; output = W.contents writer.old })
-        fault (W.contents writer.new)) }
+        fault texts.new caller.new (W.contents writer.new)) }
 {
     for number in first..u32::MAX {
         if let Some(ended) = publish_next(alloc, texts, caller, writer, client, number)? {
@@ -176,7 +191,7 @@ fn publish_from<T: Texts, C: Caller, W: Write>(
         }
     }
     // A node's cap is far below the last number.
-    Err(StreamFault::Own(Fault::BadReply))
+    Err(StreamFault::AtEnd)
 }
 
 /// Publishes texts as a client, and prints the line of each that is accepted. It asks the node for
@@ -185,7 +200,8 @@ fn publish_from<T: Texts, C: Caller, W: Write>(
 /// its advice, and ends it.
 ///
 /// `Call`: the node gave no response, or none to a submit; the message in progress may be stored.
-/// `Own`: a text could not be read, a line could not be written, or memory was refused.
+/// `Input`: a text could not be read. `Output`: a line could not be written. `NoMemory`: memory was
+/// refused. `AtEnd`: the client has no number left.
 pub fn publish_over<T: Texts, C: Caller, W: Write>(
     alloc: Global,
     texts: &mut T,
@@ -201,9 +217,10 @@ pub fn publish_over<T: Texts, C: Caller, W: Write>(
         ended texts.new caller.new (W.contents writer.new)
         ⊎ IsRefusedAtOnce T.gives T.ends C.calls client texts.old caller.old
         (W.contents writer.old) ended texts.new caller.new (W.contents writer.new)) }
-    // After a fault too, the lines are those of the texts that were published.
+    // After a fault too, the lines are those of the texts that were published. It breaks off only
+    // for a cause: the calls got no decision, or the fault has the witness of it.
     ensures broken { IfErr result (λ fault. BreaksOff T.gives T.ends C.calls client texts.old
-        caller.old (W.contents writer.old) fault (W.contents writer.new)) }
+        caller.old (W.contents writer.old) fault texts.new caller.new (W.contents writer.new)) }
 {
     match submit_until_decided(alloc, caller, client, 0, &[])? {
         Decision::Refused(GAP, first) => publish_from(alloc, texts, caller, writer, client, first),
@@ -211,7 +228,7 @@ pub fn publish_over<T: Texts, C: Caller, W: Write>(
             write_refusal(alloc, writer, number, detail)?;
             Ok(StreamEnd::Refused)
         }
-        Decision::Accepted(_) => Err(StreamFault::Call(CallFault::Broken(Fault::BadReply))),
+        Decision::Accepted(_) => Err(StreamFault::Call(CallFault::BadReply)),
     }
 }
 

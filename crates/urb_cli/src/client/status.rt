@@ -1,31 +1,32 @@
 //! The command `status`: a line for each node that is asked.
 
-ghost use Rattle.std.specs.Prelude.{◌≡◌, ◌<◌, ◌⊎◌, ◌==◌, if◌then◌else◌, Err, IfOk, IfErr};
-ghost use Rattle.std.specs.Prelude.{IfSome, Some, option_map};
-ghost use Rattle.std.specs.Io.KnownBytes.{Appends};
-ghost use Rattle.urb_client.specs.Requests.{Ask, request_body};
+ghost use Rattle.std.specs.Prelude.{◌≡◌, ◌<◌, ◌⊎◌, ◌==◌, if◌then◌else◌, IfOk, IfErr, Some};
+ghost use Rattle.std.specs.Prelude.{option_map};
+ghost use Rattle.urb_client.specs.Requests.{Ask};
 ghost use Rattle.urb_client.specs.declared.request.Control.TheVariants.{Status};
-ghost use Rattle.urb_client.specs.Responses.{Refused, frame, said_by};
+ghost use Rattle.urb_client.specs.Responses.{Refused, said_by};
 ghost use Rattle.urb_options.specs.Addresses.{address_of};
-ghost use Rattle.urb_cli.specs.internal.LaterAddresses.{address_after};
-ghost use Rattle.urb_cli.specs.ClientOutput.{IsShown, ShowsAs, ShowsNothing, shown_by};
+ghost use Rattle.urb_cli.specs.AskedAddresses.{address_after};
+ghost use Rattle.urb_cli.specs.Asking.{AsksEach, HasNoAnswer, IsNodesStatus, ShowsAnswer};
+ghost use Rattle.urb_cli.specs.ClientOutput.{IsShown, shown_by};
 ghost use Rattle.urb_cli.specs.ClientOutput.{state_word, status_line, status_shown};
 ghost use Rattle.urb_cli.specs.Statuses.{IsClientsEnd};
 
 use crate::client::address_text::push_address;
 use crate::client::advice::push_refusal;
+use crate::client::asker::Asker;
 use crate::client::call_fault::CallFault;
-use crate::client::calls::{connect_patiently, exchange};
+use crate::client::node_asker::PatientAsker;
 use crate::client::print::REFUSED;
 use crate::client::printed::Printed;
 use crate::client::refused_write::refused_write;
 use crate::client::run::show;
 use std::alloc::Global;
-use std::io::{Read, Write};
+use std::io::Write;
 use std::net::{Net, TcpListener, TcpStream};
 use urb_client::{Control, NodeState, Request, Response};
 use urb_names::NoMemory;
-use urb_options::{Fault, NodeAddress, StatusOptions};
+use urb_options::{NodeAddress, StatusOptions};
 
 fn word(state: NodeState) -> &'static str
     ensures { result.now ≡ state_word state }
@@ -96,33 +97,32 @@ fn render_status_response(
     }
 }
 
-/// Asks for the state of the node at this address over a connection, and returns the line that
-/// shows it. `BadReply`: what came is no response to this question.
-pub fn status_over<R: Read, W: Write>(
+/// Asks for the state of the node at this address, and returns the line that shows it.
+///
+/// `NoMemory`: memory was refused. Other faults are the asker's. `BadReply` may also mean that the
+/// response was none to this question.
+pub fn status_by<A: Asker>(
     alloc: Global,
-    reader: &mut R,
-    writer: &mut W,
+    asker: &mut A,
     at: NodeAddress<'_>,
-) -> Result<Printed, Fault>
-    // The frame of this question is sent, and nothing else.
-    ensures sent { IfOk result (λ shown. Appends (W.contents writer.old) (W.contents writer.new)
-        (frame (request_body (Ask Status)))) }
-    // What is shown is what the response says.
-    ensures shown { IfOk result (λ shown. IfSome (R.remaining reader.old)
-        (ShowsAs (status_shown (address_of at.entry)) (shown_by shown))) }
-    ensures response { IfOk result
-        (λ shown. IsShown (status_shown (address_of at.entry)) (shown_by shown)) }
-    ensures bad { result ≡ Err Fault.BadReply
-        → IfSome (R.remaining reader.old) (ShowsNothing (status_shown (address_of at.entry))) }
+) -> Result<Printed, CallFault>
+    // The node at this address was asked once, and this is shown for its response.
+    ensures shown { IfOk result (λ shown.
+        ShowsAnswer A.answers (status_shown (address_of at.entry)) (address_of at.entry)
+        (Ask Status) asker.old (shown_by shown) asker.new) }
+    ensures fault { IfErr result (λ why.
+        HasNoAnswer A.answers (status_shown (address_of at.entry)) (address_of at.entry)
+        (Ask Status) asker.old why asker.new) }
 {
-    let response = exchange(alloc, reader, writer, &Request::Ask(Control::Status))?;
+    let response = asker.ask(at, &Request::Ask(Control::Status))?;
     match render_status_response(alloc, at, &response)? {
         Some(shown) => Ok(shown),
-        None => Err(Fault::BadReply),
+        None => Err(CallFault::BadReply),
     }
 }
 
-/// Asks for the state of the node at this address, and waits some seconds for the answer.
+/// Asks for the state of the node at this address as `status_by` does, over a connection to that
+/// node, and waits some seconds for the answer.
 pub fn status_at<R: Net<Listener = TcpListener, Stream = TcpStream>>(
     rt: &R,
     alloc: Global,
@@ -131,8 +131,7 @@ pub fn status_at<R: Net<Listener = TcpListener, Stream = TcpStream>>(
     // What is shown is what a response to the question says.
     ensures { IfOk result (λ shown. IsShown (status_shown (address_of at.entry)) (shown_by shown)) }
 {
-    let stream = connect_patiently(rt, at)?;
-    Ok(status_over(alloc, &mut stream.ends(), &mut stream.ends(), at)?)
+    status_by(alloc, &mut PatientAsker::new(rt, alloc), at)
 }
 
 // Says on standard output that the node at this address doesn't answer, and why on standard error.
@@ -173,6 +172,42 @@ fn find_node<'a>(asking: StatusOptions<'a>, later: u8) -> NodeAddress<'a>
     }
 }
 
+// Asks for the state of the node at this address, and prints its line. Returns the status.
+fn ask_node<R: Print + Eprint, A: Asker>(
+    rt: &R,
+    alloc: Global,
+    asker: &mut A,
+    at: NodeAddress<'_>,
+) -> u8
+    ensures status { IsNodesStatus A.answers (address_of at.entry) asker.old result asker.new }
+    ensures end { IsClientsEnd result }
+{
+    let outcome = status_by(alloc, asker, at);
+    show_node(rt, at, outcome)
+}
+
+/// Asks each node for its state, once and in order, and prints its line. Returns the status: that
+/// of the first call that didn't end well, or 0. It is 1 for a call without an answer, and 4 for a
+/// refusal.
+pub fn ask_each<R: Print + Eprint, A: Asker>(
+    rt: &R,
+    alloc: Global,
+    asker: &mut A,
+    asking: StatusOptions<'_>,
+) -> u8
+    // Each node was asked once, and the status is that of the first call that didn't end well.
+    ensures each { AsksEach A.answers (address_of asking.entry.at) asker.old asking.entry.count
+        result asker.new }
+    ensures end { IsClientsEnd result }
+{
+    let mut status = 0;
+    for node in 0..asking.count {
+        let at = find_node(asking, node);
+        status = worse(status, ask_node(rt, alloc, asker, at));
+    }
+    status
+}
+
 /// Does `urbd status`: asks each node, prints its line, and returns the program's status. It is 0
 /// if all nodes answered, even if they are down. It is 1 if one doesn't answer.
 pub(crate) fn run_status<R>(rt: &R, asking: StatusOptions<'_>) -> u8
@@ -180,10 +215,6 @@ where
     R: AllocGlobal + Print + Eprint + Net<Listener = TcpListener, Stream = TcpStream>,
     ensures { IsClientsEnd result }
 {
-    let mut status = 0;
-    for node in 0..asking.count {
-        let at = find_node(asking, node);
-        status = worse(status, show_node(rt, at, status_at(rt, rt.alloc(), at)));
-    }
-    status
+    let alloc = rt.alloc();
+    ask_each(rt, alloc, &mut PatientAsker::new(rt, alloc), asking)
 }

@@ -23,6 +23,6 @@ pub fn report_stream_end<R: Eprint>(
         Ok(StreamEnd::Done) => 0,
         Ok(StreamEnd::Refused) => REFUSED,
         Err(StreamFault::Call(fault)) => report_call_fault(rt, at, fault),
-        Err(StreamFault::Own(fault)) => report_fault(rt, fault),
+        Err(fault) => report_fault(rt, fault.fault()),
     }
 }

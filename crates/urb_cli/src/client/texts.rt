@@ -1,12 +1,13 @@
 //! The messages that `publish` takes from the command line, or from the lines of an input.
 
-ghost use Rattle.std.specs.Prelude.{◌≡◌, ℕ, List, IfOk, None, Some, option_map, option_to_list};
-ghost use Rattle.std.specs.Io.KnownBytes.{Consumes, IsAtEnd};
+ghost use Rattle.std.specs.Prelude.{◌≡◌, ◌++◌, ◌∷◌, [], ℕ, List, IfOk, None, OnOk, Some};
+ghost use Rattle.std.specs.Prelude.{option_map};
 ghost use Rattle.urb_cli.specs.Publishing.{Gives, HasEnded, TakesLine};
 
-use std::io::{ErrorKind, Read};
-use urb_names::MAX_PAYLOAD;
-use urb_options::Fault;
+use crate::client::stream_fault::TextFault;
+use std::io::Read;
+use urb_client::read_byte;
+use urb_names::{MAX_PAYLOAD, NoMemory};
 
 /// Gives texts, one after the other.
 pub trait Texts {
@@ -18,7 +19,7 @@ pub trait Texts {
 
     /// Puts the next text into `text`. `false`: there is none left. A text may be longer than a
     /// message may be, by one byte.
-    fn next_text(&mut self, text: &mut Vec<u8>) -> Result<bool, Fault>
+    fn next_text(&mut self, text: &mut Vec<u8>) -> Result<bool, TextFault>
         ensures { IfOk result (Gives gives ends self.old text.new.items self.new) };
 }
 
@@ -37,17 +38,24 @@ impl<'a> OneText<'a> {
     }
 }
 
+// Writes a text.
+fn push_text(text: &mut Vec<u8>, given: &str) -> Result<(), NoMemory>
+    ensures { OnOk result (text.new.items ≡ text.old.items ++ given.now) }
+{
+    text.extend_from_slice(given.as_bytes())?;
+    Ok(())
+}
+
 impl Texts for OneText<'_> {
     ghost gives = { λ old text new. (option_map (λ s. s.now) old.text ≡ Some text) × (new.text ≡ None) };
 
     ghost ends = { λ old new. (old.text ≡ None) × (new.text ≡ None) };
 
-    fn next_text(&mut self, text: &mut Vec<u8>) -> Result<bool, Fault> {
+    fn next_text(&mut self, text: &mut Vec<u8>) -> Result<bool, TextFault> {
         text.clear();
         match self.text.take() {
             Some(given) => {
-                text.extend_from_slice(given.as_bytes())
-                    .map_err(|_| Fault::NoMemory)?;
+                push_text(text, given)?;
                 Ok(true)
             }
             None => Ok(false),
@@ -70,30 +78,17 @@ impl<I: Read + Drop> InputLines<I> {
     }
 }
 
-// Returns the next byte, or `None` at the end. A read that a signal interrupts is tried again.
-fn read_byte<R: Read>(reader: &mut R) -> Result<Option<u8>, Fault>
-    ensures bytes { IfOk result
-        (λ next. Consumes (R.remaining reader.old) (R.remaining reader.new) (option_to_list next)) }
-    ensures end { IfOk result (λ next. next ≡ None → IsAtEnd (R.remaining reader.new)) }
+// Adds a byte to a line.
+fn push_byte(line: &mut Vec<u8>, byte: u8) -> Result<(), NoMemory>
+    ensures { OnOk result (line.new.items ≡ line.old.items ++ byte ∷ []) }
 {
-    let mut byte = [0u8; 1];
-    for _ in 0..u64::MAX {
-        match reader.read(&mut byte) {
-            Ok(0) => return Ok(None),
-            Ok(_) => return Ok(Some(byte[0])),
-            Err(error) => {
-                if error.kind() != ErrorKind::Interrupted {
-                    return Err(Fault::Read);
-                }
-            }
-        }
-    }
-    Err(Fault::Read)
+    line.push(byte)?;
+    Ok(())
 }
 
 // Reads a line into `line`: at most one byte more than a message may have. `false`: the input has
 // ended.
-fn read_line<R: Read>(reader: &mut R, line: &mut Vec<u8>) -> Result<bool, Fault>
+fn read_line<R: Read>(reader: &mut R, line: &mut Vec<u8>) -> Result<bool, TextFault>
     ensures { IfOk result (Gives TakesLine HasEnded (R.remaining reader.old)
         line.new.items (R.remaining reader.new)) }
 {
@@ -102,7 +97,7 @@ fn read_line<R: Read>(reader: &mut R, line: &mut Vec<u8>) -> Result<bool, Fault>
         match read_byte(reader)? {
             None => return Ok(!line.is_empty()),
             Some(b'\n') => return Ok(true),
-            Some(byte) => line.push(byte).map_err(|_| Fault::NoMemory)?,
+            Some(byte) => push_byte(line, byte)?,
         }
     }
     Ok(true)
@@ -113,7 +108,7 @@ impl<I: Read + Drop> Texts for InputLines<I> {
 
     ghost ends = { λ old new. HasEnded (I.remaining old.input) (I.remaining new.input) };
 
-    fn next_text(&mut self, text: &mut Vec<u8>) -> Result<bool, Fault> {
+    fn next_text(&mut self, text: &mut Vec<u8>) -> Result<bool, TextFault> {
         read_line(&mut self.input, text)
     }
 }

@@ -1,18 +1,21 @@
 //! The commands of a client, over bytes in memory and over a socket.
 
-ghost use Rattle.std.specs.Prelude.{◌<◌, ◌≤◌, length};
+ghost use Rattle.std.specs.Prelude.{◌<◌, ◌≤◌, ⊤, length};
 
-use std::alloc::Global;
+use std::alloc::{AllocError, Global};
 use std::io::{Read, Write};
 use std::net::{Ipv4Addr, Net, TcpListener, TcpStream};
 use std::test::Fail;
 use std::thread;
 use std::thread::Threads;
 use urb_cli::{
-    CallFault, Printed, read_at, read_over, show, status_at, status_over, submit_at, submit_over,
+    Asker, CallFault, Printed, exchange, read_at, read_by, show, status_at, status_by, submit_at,
+    submit_by,
 };
-use urb_names::MAX_PAYLOAD;
-use urb_options::{Fault, NodeAddress, ReadOptions, SubmitOptions};
+use urb_client::{Control, Request, Response};
+use urb_names::{MAX_PAYLOAD, NoMemory};
+use urb_options::{NodeAddress, ReadOptions, SubmitOptions};
+use urb_refusing::{FailingReader, FailingWriter};
 use urb_terminal::Terminal;
 
 /// The address of the node that a terminal is told of.
@@ -39,6 +42,32 @@ fn page(port: u16) -> ReadOptions<'static>
         at: NodeAddress::Port(port),
         from: 1,
         max: 8,
+    }
+}
+
+/// Asks a node over an input and an output in memory.
+#[derive(Drop)]
+struct Wire<'a> {
+    alloc: Global,
+    input: &'a [u8],
+    output: Vec<u8>,
+}
+
+impl<'a> Wire<'a> {
+    fn new(alloc: Global, input: &'a [u8]) -> Wire<'a> {
+        Wire {
+            alloc,
+            input,
+            output: Vec::new(alloc),
+        }
+    }
+}
+
+impl Asker for Wire<'_> {
+    ghost answers = { λ old at asked answer new. ⊤ };
+
+    fn ask(&mut self, _at: NodeAddress<'_>, request: &Request) -> Result<Response, CallFault> {
+        exchange(self.alloc, &mut self.input, &mut self.output, request)
     }
 }
 
@@ -84,25 +113,22 @@ fn a_submit_shows_its_response(rt: HostRuntime) -> Result<(), Fail> {
             0,
         ),
     ] {
-        let mut reader = sent;
-        let mut written = Vec::new(rt.alloc());
-        let outcome = submit_over(rt.alloc(), &mut reader, &mut written, submitting);
+        let mut wire = Wire::new(rt.alloc(), sent);
+        let outcome = submit_by(rt.alloc(), &mut wire, submitting);
         assert_eq!(rt; told(&outcome), Ok((text, status)));
         assert_eq!(rt;
-            written.as_slice(),
+            wire.output.as_slice(),
             b"\x00\x09\x01\x00\x07\x00\x00\x00\x01hi".as_slice()
         );
     }
     for sent in &BAD {
-        let mut reader = *sent;
-        let mut written = Vec::new(rt.alloc());
-        let outcome = submit_over(rt.alloc(), &mut reader, &mut written, submitting);
-        assert_eq!(rt; told(&outcome), Err(Fault::BadReply));
+        let mut wire = Wire::new(rt.alloc(), *sent);
+        let outcome = submit_by(rt.alloc(), &mut wire, submitting);
+        assert_eq!(rt; told(&outcome), Err(CallFault::BadReply));
     }
-    let mut reader = ENTRIES;
-    let mut written = Vec::new(rt.alloc());
-    let outcome = submit_over(rt.alloc(), &mut reader, &mut written, submitting);
-    assert_eq!(rt; told(&outcome), Err(Fault::BadReply));
+    let mut wire = Wire::new(rt.alloc(), ENTRIES);
+    let outcome = submit_by(rt.alloc(), &mut wire, submitting);
+    assert_eq!(rt; told(&outcome), Err(CallFault::BadReply));
     Ok(())
 }
 
@@ -113,25 +139,22 @@ fn a_read_shows_its_response(rt: HostRuntime) -> Result<(), Fail> {
         (b"\x00\x02\x82\x00", b"", 0),
         (b"\x00\x06\xee\x03\x00\x00\x00\x00", b"refused 3 0\n", 4),
     ] {
-        let mut reader = sent;
-        let mut written = Vec::new(rt.alloc());
-        let outcome = read_over(rt.alloc(), &mut reader, &mut written, page(1));
+        let mut wire = Wire::new(rt.alloc(), sent);
+        let outcome = read_by(rt.alloc(), &mut wire, page(1));
         assert_eq!(rt; told(&outcome), Ok((text, status)));
         assert_eq!(rt;
-            written.as_slice(),
+            wire.output.as_slice(),
             b"\x00\x06\x02\x00\x00\x00\x01\x08".as_slice()
         );
     }
     for sent in &BAD {
-        let mut reader = *sent;
-        let mut written = Vec::new(rt.alloc());
-        let outcome = read_over(rt.alloc(), &mut reader, &mut written, page(1));
-        assert_eq!(rt; told(&outcome), Err(Fault::BadReply));
+        let mut wire = Wire::new(rt.alloc(), *sent);
+        let outcome = read_by(rt.alloc(), &mut wire, page(1));
+        assert_eq!(rt; told(&outcome), Err(CallFault::BadReply));
     }
-    let mut reader = ACCEPTED;
-    let mut written = Vec::new(rt.alloc());
-    let outcome = read_over(rt.alloc(), &mut reader, &mut written, page(1));
-    assert_eq!(rt; told(&outcome), Err(Fault::BadReply));
+    let mut wire = Wire::new(rt.alloc(), ACCEPTED);
+    let outcome = read_by(rt.alloc(), &mut wire, page(1));
+    assert_eq!(rt; told(&outcome), Err(CallFault::BadReply));
     Ok(())
 }
 
@@ -150,38 +173,68 @@ fn what_is_shown_goes_to_standard_output(rt: HostRuntime) -> Result<(), Fail> {
     Ok(())
 }
 
+/// The fault of a question for the state over this input and this output.
+fn fault_over<R: Read, W: Write>(
+    alloc: Global,
+    reader: &mut R,
+    writer: &mut W,
+) -> Option<CallFault> {
+    exchange(alloc, reader, writer, &Request::Ask(Control::Status)).err()
+}
+
+/// What is reported of a fault, and whether the status is 1.
+fn is_reported(alloc: Global, fault: Option<CallFault>, line: &[u8]) -> bool {
+    let Some(fault) = fault else {
+        return false;
+    };
+    let terminal = Terminal::new(alloc, &[], b"", true);
+    let told = show(&terminal, NODE, Err(fault));
+    terminal.into_shown(told).is(1, b"", line, line)
+}
+
 #[test]
 fn a_fault_says_what_is_wrong(rt: HostRuntime) -> Result<(), Fail> {
+    let alloc = rt.alloc();
+    let listener = TcpListener::bind(&rt, (Ipv4Addr::LOCALHOST, 0))?;
+    let port = listener.local_addr()?.port();
+    drop(listener);
+    let nobody = status_at(&rt, alloc, NodeAddress::Port(port)).err();
+    // A path that is longer than the system takes.
+    let long = Vec::from_elem(alloc, b'x', 200)?;
+    let path = str::from_utf8(long.as_slice()).or(Err("a path"))?;
+    let unconnected = status_at(&rt, alloc, NodeAddress::Socket(path)).err();
+    let mut written = Vec::new(alloc);
+    let mut failing = FailingReader::new(ACCEPTED, 1, 1);
+    let unread = fault_over(alloc, &mut failing, &mut written);
+    let (mut reader, mut room) = (ACCEPTED, [0u8; 8]);
+    let unsent = fault_over(alloc, &mut reader, &mut FailingWriter::new(&mut room, 1, 1));
     for (fault, line) in [
         (
-            CallFault::NobodyListens,
+            nobody,
             b"urbd: network failed: nobody listens at 127.0.0.1:7411\n".as_slice(),
         ),
         (
-            CallFault::NotConnected,
+            unconnected,
             b"urbd: network failed: the system made no connection to 127.0.0.1:7411\n",
         ),
         (
-            CallFault::Broken(Fault::Read),
+            unread,
             b"urbd: read failed: the connection broke, or no answer came from 127.0.0.1:7411\n",
         ),
         (
-            CallFault::Broken(Fault::Write),
+            unsent,
             b"urbd: write failed: the request was not sent whole to 127.0.0.1:7411\n",
         ),
         (
-            CallFault::Broken(Fault::BadReply),
+            Some(CallFault::BadReply),
             b"urbd: bad reply: no whole response came from 127.0.0.1:7411\n",
         ),
         (
-            CallFault::Broken(Fault::NoMemory),
+            Some(CallFault::from(NoMemory::from(AllocError))),
             b"urbd: no memory: the call ended early, of 127.0.0.1:7411\n",
         ),
     ] {
-        let terminal = Terminal::new(rt.alloc(), &[], b"", true);
-        let told = show(&terminal, NODE, Err(fault));
-        let shown = terminal.into_shown(told);
-        assert!(rt; shown.is(1, b"", line, line));
+        assert!(rt; is_reported(alloc, fault, line), "{fault:?}");
     }
     Ok(())
 }
@@ -215,17 +268,15 @@ fn a_state_is_shown_in_a_line(rt: HostRuntime) -> Result<(), Fail> {
             4,
         ),
     ] {
-        let mut reader = sent;
-        let mut written = Vec::new(rt.alloc());
-        let outcome = status_over(rt.alloc(), &mut reader, &mut written, NODE);
+        let mut wire = Wire::new(rt.alloc(), sent);
+        let outcome = status_by(rt.alloc(), &mut wire, NODE);
         assert_eq!(rt; told(&outcome), Ok((text, status)));
-        assert_eq!(rt; written.as_slice(), b"\x00\x01\x03".as_slice());
+        assert_eq!(rt; wire.output.as_slice(), b"\x00\x01\x03".as_slice());
     }
     for sent in [b"".as_slice(), b"\x00\x01\x84", ACCEPTED, ENTRIES] {
-        let mut reader = sent;
-        let mut written = Vec::new(rt.alloc());
-        let outcome = status_over(rt.alloc(), &mut reader, &mut written, NODE);
-        assert_eq!(rt; told(&outcome), Err(Fault::BadReply));
+        let mut wire = Wire::new(rt.alloc(), sent);
+        let outcome = status_by(rt.alloc(), &mut wire, NODE);
+        assert_eq!(rt; told(&outcome), Err(CallFault::BadReply));
     }
     Ok(())
 }
@@ -306,7 +357,7 @@ fn a_submit_goes_over_a_socket(rt: HostRuntime) -> Result<(), Fail> {
     }
     for answer in [b"".as_slice(), b"\x00\x05\x81\x00", ENTRIES] {
         let (_, outcome) = submit_beside(&rt, rt.alloc(), &listener, answer, submitting);
-        assert_eq!(rt; told(&outcome), Err(CallFault::Broken(Fault::BadReply)));
+        assert_eq!(rt; told(&outcome), Err(CallFault::BadReply));
     }
     // A text over 16,384 bytes isn't sent.
     let long = Vec::from_elem(rt.alloc(), b'x', MAX_PAYLOAD + 1)?;
@@ -334,12 +385,12 @@ fn a_read_goes_over_a_socket(rt: HostRuntime) -> Result<(), Fail> {
     let asked = b"\x00\x06\x02\x00\x00\x00\x01\x08".as_slice();
     assert_eq!(rt; seen.ok_or("a request")?.as_slice(), asked);
     let (_, outcome) = read_beside(&rt, rt.alloc(), &listener, ACCEPTED, page(port));
-    assert_eq!(rt; told(&outcome), Err(CallFault::Broken(Fault::BadReply)));
+    assert_eq!(rt; told(&outcome), Err(CallFault::BadReply));
     // If no node listens, that is reported.
     drop(listener);
     let outcome = read_at(&rt, rt.alloc(), page(port));
-    assert_eq!(rt; told(&outcome), Err(CallFault::NobodyListens));
+    assert!(rt; matches!(told(&outcome), Err(CallFault::NobodyListens(_))));
     let outcome = status_at(&rt, rt.alloc(), NodeAddress::Port(port));
-    assert_eq!(rt; told(&outcome), Err(CallFault::NobodyListens));
+    assert!(rt; matches!(told(&outcome), Err(CallFault::NobodyListens(_))));
     Ok(())
 }

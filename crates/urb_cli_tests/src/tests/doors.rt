@@ -194,13 +194,13 @@ where
 fn a_status_goes_over_a_unix_socket(rt: HostRuntime) -> Result<(), Fail> {
     let _ = fs::remove_file(&rt, PATH);
     let missing = status_at(&rt, rt.alloc(), NodeAddress::Socket(PATH));
-    assert_eq!(rt; missing.err(), Some(CallFault::NobodyListens));
+    assert!(rt; matches!(&missing, Err(CallFault::NobodyListens(_))));
     let listener = UnixListener::bind(&rt, PATH)?;
     assert_eq!(rt; status_beside(&rt, rt.alloc(), &listener), Some(true));
     drop(listener);
     let ended = status_at(&rt, rt.alloc(), NodeAddress::Socket(PATH));
     fs::remove_file(&rt, PATH)?;
-    assert_eq!(rt; ended.err(), Some(CallFault::NobodyListens));
+    assert!(rt; matches!(&ended, Err(CallFault::NobodyListens(_))));
     assert!(rt; UnixStream::connect(&rt, PATH).is_err());
     Ok(())
 }
@@ -209,9 +209,9 @@ fn a_status_goes_over_a_unix_socket(rt: HostRuntime) -> Result<(), Fail> {
 fn a_fault_names_the_socket(rt: HostRuntime) -> Result<(), Fail> {
     let terminal = Terminal::new(rt.alloc(), &[], b"", true);
     let at = NodeAddress::Socket("/run/urbd/node-1.sock");
-    let status = report_call_fault(&terminal, at, CallFault::NobodyListens);
+    let status = report_call_fault(&terminal, at, CallFault::BadReply);
     let shown = terminal.into_shown(status);
-    let line = b"urbd: network failed: nobody listens at /run/urbd/node-1.sock\n".as_slice();
+    let line = b"urbd: bad reply: no whole response came from /run/urbd/node-1.sock\n".as_slice();
     assert_eq!(rt; (shown.status, shown.errors.as_slice()), (1, line));
     Ok(())
 }

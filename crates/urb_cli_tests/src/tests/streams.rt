@@ -2,15 +2,15 @@
 
 ghost use Rattle.std.specs.Prelude.{⊤};
 
-use std::alloc::Global;
+use std::alloc::{AllocError, Global};
 use std::test::Fail;
 use urb_cli::{
     CallFault, Caller, InputLines, OneText, StreamEnd, StreamFault, TRIES, Texts, follow_over,
     publish_over, report_stream_end,
 };
-use urb_client::{Request, Response, encode_request, parse_response};
-use urb_names::MAX_PAYLOAD;
-use urb_options::{EntryForm, Fault, NodeAddress};
+use urb_client::{Request, Response, encode_request, parse_response, write_frame};
+use urb_names::{MAX_PAYLOAD, NoMemory};
+use urb_options::{EntryForm, NodeAddress};
 use urb_terminal::Terminal;
 
 /// A node that gives these responses, in their order, and none after them. No bytes stand for a
@@ -39,16 +39,14 @@ impl Caller for Script<'_> {
 
     fn call(&mut self, request: &Request) -> Result<Response, CallFault> {
         let frame = encode_request(self.alloc, request)?;
-        self.asked
-            .extend_from_slice(frame.as_slice())
-            .map_err(|_| Fault::NoMemory)?;
+        write_frame(&mut self.asked, frame.as_slice())?;
         let Some(bytes) = self.responses.get(self.given) else {
-            return Err(CallFault::NobodyListens);
+            return Err(CallFault::BadReply);
         };
         self.given = self.given.saturating_add(1);
         match parse_response(self.alloc, *bytes)? {
             Some(response) => Ok(response),
-            None => Err(CallFault::Broken(Fault::BadReply)),
+            None => Err(CallFault::BadReply),
         }
     }
 
@@ -175,7 +173,7 @@ fn a_message_without_a_response_is_sent_again(rt: HostRuntime) -> Result<(), Fai
     let run = publish_lines(rt.alloc(), b"one\n", &[]);
     let calls = TRIES.saturating_add(1) as usize;
     assert_eq!(rt; run.asked.len(), calls.saturating_mul(ASKED_NEXT.len()));
-    assert_eq!(rt; run.ended, Err(StreamFault::Call(CallFault::NobodyListens)));
+    assert_eq!(rt; run.ended, Err(StreamFault::Call(CallFault::BadReply)));
     Ok(())
 }
 
@@ -230,7 +228,7 @@ fn a_line_that_is_too_long_is_not_sent(rt: HostRuntime) -> Result<(), Fail> {
 fn a_response_of_another_kind_ends_a_publish(rt: HostRuntime) -> Result<(), Fail> {
     for responses in [[ACCEPTED_5].as_slice(), &[NEXT_IS_3, b"\x82\x00"]] {
         let run = publish_lines(rt.alloc(), b"one\n", responses);
-        let bad = StreamFault::Call(CallFault::Broken(Fault::BadReply));
+        let bad = StreamFault::Call(CallFault::BadReply);
         assert_eq!(rt; run.output.as_slice(), b"".as_slice());
         assert_eq!(rt; run.ended, Err(bad));
     }
@@ -317,16 +315,16 @@ fn a_node_without_waits_is_asked_by_reads(rt: HostRuntime) -> Result<(), Fail> {
 fn a_follow_ends_without_responses_or_an_output(rt: HostRuntime) -> Result<(), Fail> {
     let run = follow(rt.alloc(), EntryForm::Text, &[HI]);
     assert_eq!(rt; run.output.as_slice(), b"1.1 7 1 text hi\n".as_slice());
-    assert_eq!(rt; run.ended, Err(StreamFault::Call(CallFault::NobodyListens)));
+    assert_eq!(rt; run.ended, Err(StreamFault::Call(CallFault::BadReply)));
     let run = follow(rt.alloc(), EntryForm::Text, &[HI, ACCEPTED_5]);
-    let bad = StreamFault::Call(CallFault::Broken(Fault::BadReply));
+    let bad = StreamFault::Call(CallFault::BadReply);
     assert_eq!(rt; run.ended, Err(bad));
     // An output with room for four bytes.
     let mut room = [0u8; 4];
     let mut output = room.as_mut_slice();
     let mut script = Script::new(rt.alloc(), &[HI]);
     let ended = follow_over(rt.alloc(), &mut script, &mut output, EntryForm::Text, 1);
-    assert_eq!(rt; ended, Err(StreamFault::Own(Fault::Write)));
+    assert!(rt; matches!(&ended, Err(StreamFault::Output(_))));
     Ok(())
 }
 
@@ -372,14 +370,15 @@ fn an_end_has_its_status(rt: HostRuntime) -> Result<(), Fail> {
         (Ok(StreamEnd::Done), 0, b"".as_slice()),
         (Ok(StreamEnd::Refused), 4, b""),
         (
-            Err(StreamFault::Own(Fault::Write)),
+            Err(StreamFault::NoMemory(NoMemory::from(AllocError))),
             1,
-            b"urbd: write failed\n",
+            b"urbd: no memory\n",
         ),
+        (Err(StreamFault::AtEnd), 1, b"urbd: bad reply\n"),
         (
-            Err(StreamFault::Call(CallFault::NobodyListens)),
+            Err(StreamFault::Call(CallFault::BadReply)),
             1,
-            b"urbd: network failed: nobody listens at 127.0.0.1:7411\n",
+            b"urbd: bad reply: no whole response came from 127.0.0.1:7411\n",
         ),
     ] {
         let terminal = Terminal::new(rt.alloc(), &[], b"", true);

@@ -8,6 +8,7 @@ use super::receiving::has_entries;
 use super::{ANSWERED, SENT, first_frame};
 use std::alloc::{Allocator, Global};
 use std::fmt::Display;
+use std::io::Read;
 use urb_client::*;
 use urb_refusing::{FailingReader, FailingWriter, Refusing};
 
@@ -252,7 +253,7 @@ fn a_frame_takes_memory_once(rt: HostRuntime) {
 fn response_read(alloc: Global, number: u64) -> RunResult {
     let mut reader = FailingReader::new(PAGE, 3, number);
     let read = has_entries(alloc, &mut reader);
-    let told = read == Err(ResponseFault::Read) && reader.failed_last();
+    let told = matches!(&read, Err(ResponseFault::Read(_))) && reader.failed_last();
     run_result(reader.has_failed(), told, read == Ok(true))
 }
 
@@ -261,7 +262,7 @@ fn response_growth(alloc: Global, number: u64) -> RunResult {
     let heap = Refusing::new(alloc, number);
     let mut reader = PAGE;
     let read = has_entries(&heap, &mut reader);
-    let told = read == Err(ResponseFault::NoMemory);
+    let told = matches!(&read, Err(ResponseFault::NoMemory(_)));
     run_result(heap.has_failed(), told, read == Ok(true))
 }
 
@@ -342,9 +343,25 @@ fn fails_with(alloc: Global, course: Course, text: &str) -> bool {
     }
 }
 
+// Says whether receiving a response ends with a fault of this text.
+fn is_told<A: Allocator + Copy, R: Read>(
+    alloc: Global,
+    heap: A,
+    reader: &mut R,
+    text: &str,
+) -> bool {
+    match has_entries(heap, reader) {
+        Ok(_) => false,
+        Err(fault) => is_written(alloc, &fault, text),
+    }
+}
+
 #[test]
 fn faults_have_their_texts(rt: HostRuntime) {
     let alloc = rt.alloc();
+    let refusing = Refusing::new(alloc, 1);
+    let mut failing = FailingReader::new(PAGE, 3, 1);
+    let (mut page, mut empty) = (PAGE, b"".as_slice());
     let written = [
         fails_with(alloc, Course { read: 1, ..SMOOTH }, "read failed"),
         fails_with(alloc, Course { write: 1, ..SMOOTH }, "write failed"),
@@ -357,9 +374,9 @@ fn faults_have_their_texts(rt: HostRuntime) {
             "no memory",
         ),
         is_written(alloc, &SessionFault::TooMany, "too many frames"),
-        is_written(alloc, &ResponseFault::Read, "read failed"),
-        is_written(alloc, &ResponseFault::NoMemory, "no memory"),
-        is_written(alloc, &ResponseFault::NoResponse, "bad reply"),
+        is_told(alloc, alloc, &mut failing, "read failed"),
+        is_told(alloc, &refusing, &mut page, "no memory"),
+        is_told(alloc, alloc, &mut empty, "bad reply"),
     ];
     assert_eq!(rt; written, [true; 7]);
 }

@@ -1,4 +1,4 @@
-use Rattle.std.proofs.Common.{refl}
+use Rattle.std.proofs.Common.{arith, inl, inr, refl}
 use Rattle.std.proofs.lemmas.Result.{err_from_is_err_and}
 use Rattle.urb_cli.specs.EntryForms.{form_line}
 use Rattle.urb_cli.specs.internal.Following.{Goes}
@@ -17,8 +17,8 @@ returns-in_err-next-clause-broken g c =
         place = c.loop.place;
         output = g.W.Write.contents c.loop.writer;
       },
-      c.loop.invariant.going.1,
-      c.in_err-next.ensures.err,
+      c.loop.invariant.going.2,
+      inl c.in_err-next.ensures.err,
     )
 
 pub returns-in-Refused-clause-refused : goal.returns-in-Refused-clause-refused
@@ -34,7 +34,7 @@ returns-in-Refused-clause-refused g c =
         },
         ended.0,
         ended.1,
-        c.loop.invariant.going.1,
+        c.loop.invariant.going.2,
         ended.2,
         ended.3,
       ),
@@ -59,7 +59,7 @@ loop-preserved g c =
       some = still_a_place g.C.Caller.calls (form_line c.args.form) _ _ _ _ goes c.loop.invariant.some;
       going =
           one_more_page g.C.Caller.calls (form_line c.args.form) c.args.caller.now c.args.from
-          (g.W.Write.contents c.args.writer.now) _ _ _ _ c.loop.invariant.going goes;
+          (g.W.Write.contents c.args.writer.now) _ _ _ _ _ c.loop.invariant.going goes;
     }
 
 pub returns-clause-broken : goal.returns-clause-broken
@@ -70,6 +70,6 @@ returns-clause-broken g c = (
     place = c.loop.place;
     output = g.W.Write.contents c.loop.writer;
   },
-  c.loop.invariant.going.1,
-  tt,
+  c.loop.invariant.going.2,
+  inr (refl, omega (arith, c.loop-test.false, c.loop.auto.counter-end, c.loop.invariant.going.1), refl),
 )

@@ -1,3 +1,4 @@
+use Rattle.std.proofs.Common.{arith, inr, refl}
 use Rattle.std.proofs.lemmas.Result.{err_from_is_err_and}
 use Rattle.urb_cli.proofs.PublishedTexts.{one_more_text}
 use Rattle.urb_cli.proofs.client.publish.publish_from.Goals as goal
@@ -45,5 +46,5 @@ returns-clause-broken g c = (
     output = g.W.Write.contents c.loop-number.writer;
   },
   c.loop-number.invariant.1,
-  tt,
+  inr (inr (inr (refl, omega (arith, c.loop-number-test.false, c.loop-number.auto.number-end), refl))),
 )

@@ -1,5 +1,11 @@
-use Rattle.std.proofs.Common.{refl, rules}
+use Rattle.std.proofs.Common.{inl, refl, rules}
+use Rattle.std.proofs.lemmas.Result.{err_from_is_err_and}
 use Rattle.urb_cli.proofs.client.publish.publish_next.Goals as goal
+
+pub returns-in_err-next_text-clause-err : goal.returns-in_err-next_text-clause-err
+returns-in_err-next_text-clause-err g c =
+    let p = err_from_is_err_and c.from_residual.result c.from_residual.ensures.1 in
+    rw (p.1, p.2) (inl (c.in_err-next_text.field-0.0, refl, refl, refl))
 
 pub returns-in-Accepted-clause-ok : goal.returns-in-Accepted-clause-ok
 returns-in-Accepted-clause-ok g c = (

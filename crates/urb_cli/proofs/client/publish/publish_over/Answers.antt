@@ -1,6 +1,11 @@
-use Rattle.std.proofs.Common.{inl, rules}
-use Rattle.std.proofs.lemmas.Result.{IfOk-weaker}
+use Rattle.std.proofs.Common.{inl, refl, rules}
+use Rattle.std.proofs.lemmas.Result.{IfOk-weaker, err_from_is_err_and}
 use Rattle.urb_cli.proofs.client.publish.publish_over.Goals as goal
+
+pub returns-in_err-first-clause-broken : goal.returns-in_err-first-clause-broken
+returns-in_err-first-clause-broken g c =
+    let p = err_from_is_err_and c.from_residual.result c.from_residual.ensures.1 in
+    rw (p.1, p.2) (inl (inl c.in_err-first.ensures.err, refl))
 
 pub returns-in-Refused-eq7-default-clause-ended : goal.returns-in-Refused-eq7-default-clause-ended
 returns-in-Refused-eq7-default-clause-ended g c =

@@ -1,6 +1,12 @@
--- The addresses of the nodes of a group.
-use Rattle.std.specs.Prelude.{◌+◌, ℕ}
+-- The addresses of the nodes that a client asks, and their texts.
+use Rattle.std.specs.Prelude.{ℕ, ◌+◌, List}
+use Rattle.std.specs.Fmt.{decimal}
 use Rattle.urb_options.specs.Addresses.{Address, AtPort, AtSocket}
+
+-- the number of the port, or the path
+abbrev pub address_text : Address → List ℕ
+address_text (AtPort port) = decimal port
+address_text (AtSocket path) = path
 
 -- the address of the node that comes so many nodes after this one; a socket is one node's alone
 abbrev pub address_after : Address → ℕ → Address
