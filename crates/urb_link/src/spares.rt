@@ -1,6 +1,6 @@
 //! Buffers of datagrams that a node has handled, for its next datagrams.
 
-ghost use Rattle.std.specs.Prelude.{◌≡◌, ◌-◌, IfSome, Some, slice_get};
+ghost use Rattle.std.specs.Prelude.{◌≡◌, ◌-◌, IfSome, option_map, slice_get};
 
 use crate::Station;
 use std::sync::Mutex;
@@ -61,11 +61,13 @@ pub(crate) struct NodeSpares<'s> {
 }
 
 impl<'s> NodeSpares<'s> {
-    /// The buffers of a node, whose station is among those of the nodes 1, 2, .. `None` if it isn't.
+    /// The buffers of a node, at its station. The stations are those of the nodes 1, 2, .. `None` if
+    /// there are too few for this node.
     pub(crate) fn of(stations: &'s [Station], node: NodeId) -> Option<NodeSpares<'s>>
         ensures node { IfSome result (λ it. it.node ≡ node) }
-        ensures station { IfSome result
-            (λ it. slice_get stations.now (node - 1) ≡ Some it.station.now) }
+        // It is the station at the node's place. There is none only if the list ends before it.
+        ensures station { option_map (λ it. it.station.now) result
+            ≡ slice_get stations.now (node - 1) }
     {
         match stations.get(usize::from(node.number()) - 1) {
             Some(station) => Some(NodeSpares { node, station }),

@@ -8,15 +8,15 @@ use Rattle.urb_desk.specs.Desks.{DeskView}
 use Rattle.urb_client.specs.Requests.{Ask, Asked}
 use Rattle.urb_client.specs.declared.request.Control.TheVariants as control
 
--- the desk of a node at which nothing was seen, after these events
+-- the desk of node p, which has seen these events; its reader knows nothing yet
 abbrev pub desk_of : ℕ → List Event → DeskView
 desk_of p past = record { node = p; known = knowing [] [] []; past = past }
 
--- the desk of node 1 at which nothing was seen yet
+-- the desk of node 1, which has seen no event
 abbrev pub new_desk : DeskView
 new_desk = desk_of 1 []
 
--- the same desk, once it has seen a tick of node 1
+-- the desk of node 1, once its reader and the desk have seen a tick of node 1
 abbrev pub later_desk : DeskView
 later_desk = record { node = 1; known = knowing [] [] (Tick 1 ∷ []); past = Tick 1 ∷ [] }
 
