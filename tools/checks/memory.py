@@ -15,8 +15,10 @@ from tools.tree import Misfit, Tree
 PLACES: Mapping[str, int] = {
     # a thread can't be made
     "crates/urb_daemon/src/error_output.rt": 1,
-    # the allocator of tests refuses
+    # the allocator of tests refuses, and so do tests of what a refusal shows
     "crates/urb_refusing/src/lib.rt": 1,
+    "crates/urb_cli_tests/src/tests/clients.rt": 1,
+    "crates/urb_cli_tests/src/tests/streams.rt": 1,
     # a failed write to memory, whose error has no allocation in it
     "crates/urb_cli/src/client/refused_write.rt": 1,
     "crates/urb_script/src/answer_words.rt": 1,

@@ -31,9 +31,9 @@ abbrev pub IsAnswered : {C : Type 0} → (C → Asked → Option Said → C → 
 IsAnswered calls old place answer new =
     (asked : Asked) × IsFrom place asked × Insists calls asked old answer new
 
--- Why a follower breaks off after its last page. The node, asked for the log from the next place on,
--- gave no response to a read; or what it gave could not be printed; or its page ends after the last
--- place of any log.
+-- Why a follower breaks off after its last page: the node is asked for the log from the next place
+-- on. It gives no response to a read. Or what it gives can't be printed. Or its page ends after the
+-- last place of any log.
 abbrev pub StopsAfter : {C : Type 0} → (C → Asked → Option Said → C → Type 0) → Reader C
     → StreamFault → C → Option (List ℕ) → Type 0
 StopsAfter calls last why caller output =
