@@ -1,4 +1,4 @@
-use Rattle.std.proofs.Common.{ap, arith, inl, suc, sym, ◌∙◌}
+use Rattle.std.proofs.Common.{ap, arith, inl, refl, suc, sym, ◌∙◌}
 use Rattle.std.proofs.lemmas.List.Elements.{All-from_recursion}
 use Rattle.std.proofs.lemmas.Result.{IfOk-weaker}
 use Rattle.sqlite.specs.Files.{file_state}
@@ -22,7 +22,9 @@ returns-in-Ok-clause-goes_on g c =
         sound = sound;
         counted = counted ∙ sym (ap (λ (limits : Limits). limits.n) size);
         nodes = let most = ap (λ (limits : Limits). limits.n) size in omega (arith, most);
+        shown = w;
         shows = shows;
+        stands = record { size = refl; nodes = λ p. inl refl };
         holds =
             all_hold c.args.journals.items c.in-Ok.again.items (λ j. file_state j.conn)
             (λ i. w.node (suc i)) c.in-Ok.ensures
