@@ -1,7 +1,7 @@
 -- What a response says about a request's job, judged by the job's result, is true.
-use Rattle.std.proofs.Common.{Bool, Err, List, None, Ok, Option, Result, Some, Vec, [], ap, false}
-use Rattle.std.proofs.Common.{inl, inr, length, refl, subst, sym, true, ℕ, ◌++◌, ◌∙◌, ◌∷◌, ◌≡◌}
-use Rattle.std.proofs.Common.{⊎_elim, ◌⊎◌}
+use Rattle.std.proofs.Common.{Bool, Err, IfOk, List, None, Ok, Option, Result, Some, Vec, []}
+use Rattle.std.proofs.Common.{ap, false, inl, inr, length, refl, subst, sym, true, ℕ, ◌++◌, ◌∙◌}
+use Rattle.std.proofs.Common.{⊎_elim, ◌∷◌, ◌≡◌, ◌⊎◌}
 use Rattle.std.proofs.lemmas.Bool.{false≢true}
 use Rattle.std.specs.declared.alloc.Global.{Global}
 use Rattle.urb_client.specs.Requests.{Ask, Asked, Read, Submit, Wait}
@@ -62,7 +62,7 @@ use Rattle.urb_turn.specs.Loans.{IsLoan, LoansView}
 use Rattle.urb_turn.specs.Settlings.{Published}
 use Rattle.urb_turn.specs.Stages.{commit_reply, crash_stage, fail_reply, image_stage, kept_stage}
 use Rattle.urb_turn.specs.Stages.{restart_reply, restart_stage, status_reply, taken_stage}
-use Rattle.urb_turn.specs.Turns.{CameOf, Counts, Ends, Goes, HasBegun, IsKeptOf, IsOutcome}
+use Rattle.urb_turn.specs.Turns.{CameOf, Counts, Ends, Goes, HasBegun, IsKeptOf}
 use Rattle.urb_turn.specs.Turns.{has_released}
 use Rattle.urb_turn.specs.declared.job.Job.{Job}
 use Rattle.urb_turn.specs.declared.job.Job.TheVariants as job
@@ -556,49 +556,55 @@ came_tells opened seen (Ask control) p done said status settling loans is came b
     (subst (λ (j : Job). CameOf opened j said status settling (Some loans)) is came) behind
 came_tells opened seen asked p done said status settling loans is came behind = absurd is
 
-outcome_tells : (opened : GroupView) (seen later : List Event) (ran : Bool) (asked : Asked) (p : ℕ)
+outcome_tells : (opened : GroupView) (seen later : List Event) (asked : Asked) (p : ℕ)
     (done : Job) (said : Reply Global) (status : Option Status) (settling : Published)
     (loans : Option LoansView)
-    → IsJobOf p asked done → IsOutcome opened ran done said status settling loans
-    → Sees seen ran loans later → Tells opened seen later p asked (told_of said status)
-outcome_tells opened seen later true asked p done said status settling (Some loans) is came sees =
+    → IsJobOf p asked done → CameOf opened done said status settling loans
+    → Sees seen loans later → Tells opened seen later p asked (told_of said status)
+outcome_tells opened seen later asked p done said status settling (Some loans) is came sees =
     subst (λ (l : List Event). Tells opened seen l p asked (told_of said status)) (sym sees.1)
     (came_tells opened seen asked p done said status settling loans is came sees.0)
-outcome_tells opened seen later true asked p done said status settling None is came sees =
-    absurd sees
-outcome_tells opened seen later false asked p done said status settling loans is out sees =
-    subst (λ (s : Option Status). Tells opened seen later p asked (told_of said s)) (sym out.1)
-    (subst (λ (r : Reply Global). Tells opened seen later p asked (told_of r None)) (sym out.0)
-    (refused_tells opened seen later p asked (number_of refusal.BadNode)
-    (detail_of refusal.BadNode)))
+outcome_tells opened seen later asked p done said status settling None is came sees = absurd sees
 
 -- What a desk responds by the result of its worker is true of the desk's node.
 pub works_tells : (opened : GroupView) (before after : DeskView) (asked : Asked) (said : Said)
     → Works opened before asked said after
     → Tells opened before.past after.past before.node asked said
 works_tells opened before after asked said (inl w) =
-    subst (Tells opened before.past after.past before.node asked) (sym w.9)
-    (outcome_tells opened before.past after.past w.1 asked before.node w.0 w.2 w.3 w.4 w.5 w.6 w.7
-    w.10)
+    subst (Tells opened before.past after.past before.node asked) (sym w.8)
+    (outcome_tells opened before.past after.past asked before.node w.0 w.1 w.2 w.3 w.4 w.5 w.6 w.9)
 works_tells opened before after asked said (inr w) =
     subst (Tells opened before.past after.past before.node asked) (sym w.2)
     (refused_tells opened before.past after.past before.node asked 3 0)
 
-outcome_grows : (opened : GroupView) (seen later : List Event) (ran : Bool) (done : Job)
+outcome_grows : (opened : GroupView) (seen later : List Event) (done : Job)
     (said : Reply Global) (status : Option Status) (settling : Published)
-    (loans : Option LoansView) → IsOutcome opened ran done said status settling loans
-    → Sees seen ran loans later → IsPrefix seen later
-outcome_grows opened seen later true done said status settling (Some loans) came sees =
+    (loans : Option LoansView) → CameOf opened done said status settling loans
+    → Sees seen loans later → IsPrefix seen later
+outcome_grows opened seen later done said status settling (Some loans) came sees =
     subst (λ (l : List Event). IsPrefix seen l) (sym sees.1)
     (seen_grows opened seen done said status settling loans came sees.0)
-outcome_grows opened seen later true done said status settling None came sees = absurd sees
-outcome_grows opened seen later false done said status settling loans out sees =
-    prefix_same seen later (sym sees)
+outcome_grows opened seen later done said status settling None came sees = absurd sees
 
 -- what a desk has seen only grows
 pub works_grows : (opened : GroupView) (before after : DeskView) (asked : Asked) (said : Said)
     → Works opened before asked said after → IsPrefix before.past after.past
 works_grows opened before after asked said (inl w) =
-    outcome_grows opened before.past after.past w.1 w.0 w.2 w.3 w.4 w.5 w.7 w.10
+    outcome_grows opened before.past after.past w.0 w.1 w.2 w.3 w.4 w.6 w.9
 works_grows opened before after asked said (inr w) =
     prefix_same before.past after.past (sym w.1)
+
+-- the same for a response, if memory was not refused for it
+pub answer_tells : {X E : Type 0} (opened : GroupView) (before after : DeskView) (asked : Asked)
+    (said : X → Said) (result : Result X E)
+    → IfOk result (λ r. (after.node ≡ before.node) × Works opened before asked (said r) after)
+    → IfOk result (λ r. (after.node ≡ before.node) × Works opened before asked (said r) after
+    × Tells opened before.past after.past before.node asked (said r)
+    × IsPrefix before.past after.past)
+answer_tells opened before after asked said (Ok r) works = (
+  works.0,
+  works.1,
+  works_tells opened before after asked (said r) works.1,
+  works_grows opened before after asked (said r) works.1,
+)
+answer_tells opened before after asked said (Err refused) works = tt
