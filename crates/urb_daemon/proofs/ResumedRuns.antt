@@ -151,7 +151,8 @@ left_over g w journals would may_leave leaves held old size sound counted nodes 
     left_files g may_leave leaves held old w size journals sound counted nodes shows places would
     stopped none
 
--- files in which a stop left what it may leave of the nodes as their stores have them
+-- A stop left these files while stores were ahead of their nodes. They fit the world whose nodes are
+-- as their stores have them.
 pub ahead_over : {S A : Type 0} (g : Ghosts S A) (w : World) (journals : List S)
     → WouldLeaveAhead g w journals → (may_leave : S → Trees → Type 0)
     → ((j : S) (P : List Entry → Type 0) → g.leaves_only j P → (image : Image) (db : Trees)
