@@ -1,12 +1,16 @@
 -- What a desk has seen after a turn, and what is no turn of a request.
-use Rattle.std.proofs.Common.{Bool, List, MatchOption, None, Option, Some, false, subst, sym, true, ℕ}
-use Rattle.std.proofs.Common.{◌↔◌, ◌∙◌, ◌≡◌}
+use Rattle.std.proofs.Common.{Bool, List, MatchOption, None, Option, Some, false, inl, subst, sym}
+use Rattle.std.proofs.Common.{true, ℕ, ◌↔◌, ◌∙◌, ◌≡◌}
 use Rattle.std.proofs.lemmas.Bool.{false≢true}
 use Rattle.urb_client.specs.Requests.{Asked}
+use Rattle.urb_client.specs.Responses.{Said}
+use Rattle.urb_group.specs.GroupViews.{GroupView}
 use Rattle.urb_world.specs.Step.{Event}
-use Rattle.urb_desk.specs.Desks.{IsJobOf, Sees}
+use Rattle.urb_desk.specs.Desks.{DeskView, IsJobOf, LearnsTold, Sees, Works, told_of}
 use Rattle.urb_desk.specs.internal.Desks.{IsTurnFor}
 use Rattle.urb_turn.specs.Loans.{Follows, LoansView, end_of}
+use Rattle.urb_turn.specs.Settlings.{told_in}
+use Rattle.urb_turn.specs.Turns.{IsOutcome}
 use Rattle.urb_turn.specs.Views.{FinishedView}
 
 -- the desk keeps the moment of the turn's end
@@ -24,17 +28,30 @@ sees seen now false loans end ran follows is learnt = absurd (cc)
 -- ---- what is no turn of a request
 
 module _ (p : ℕ) (seen : List Event) (asked : Asked) (finished : FinishedView) where
-  -- a job that did not run
+  -- a job that did not run is no turn of a request
   pub no_run : finished.ran ≡ false → IsTurnFor p seen asked finished → ⊥
-  no_run no is = false≢true (sym no ∙ is.1)
+  no_run idle is = false≢true (sym idle ∙ is.1)
 
-  -- a turn that got the House before what had been seen
+  -- a turn that got the House before what had been seen is no turn of a request
   pub an_earlier_turn : (later : Bool) → later ≡ false
       → (later ≡ true ↔ Follows seen finished.ran finished.loans)
       → IsTurnFor p seen asked finished → ⊥
-  an_earlier_turn later no same is = false≢true (sym no ∙ same.1 is.2)
+  an_earlier_turn later early same is = false≢true (sym early ∙ same.1 is.2)
 
-  -- a turn of another job
+  -- a turn of another job is no turn of a request
   pub another_job : (same : Bool) → same ≡ false → (IsJobOf p asked finished.job → same ≡ true)
       → IsTurnFor p seen asked finished → ⊥
-  another_job same no each is = false≢true (sym no ∙ each is.0)
+  another_job same other each is = false≢true (sym other ∙ each is.0)
+
+-- A turn of a request is what a desk answers by, once the desk has learnt what the turn published.
+pub works_by_turn : (opened : GroupView) (before after : DeskView) (asked : Asked) (said : Said)
+    (turn : FinishedView) → IsTurnFor before.node before.past asked turn
+    → IsOutcome opened turn.ran turn.job turn.reply turn.status turn.settling turn.loans
+    → LearnsTold (told_in turn.settling) before.known after.known
+    → said ≡ told_of turn.reply turn.status → Sees before.past turn.loans after.past
+    → Works opened before asked said after
+works_by_turn opened before after asked said turn is outcome learnt told seen =
+    let ran : IsOutcome opened true turn.job turn.reply turn.status turn.settling turn.loans =
+    subst (λ (ran : Bool).
+    IsOutcome opened ran turn.job turn.reply turn.status turn.settling turn.loans) is.1 outcome in
+    inl (turn.job, turn.reply, turn.status, turn.settling, turn.loans, is.0, ran, learnt, told, seen)

@@ -55,8 +55,9 @@ use Rattle.urb_stable.specs.declared.record.Record.TheVariants.{Cert, Pend, Pend
 use Rattle.urb_stable.specs.declared.stable.StoreFault.{StoreFault}
 use Rattle.urb_turn.proofs.GrowingPasts.{begins_grow, ends_grow, settled_past}
 use Rattle.urb_turn.proofs.TurnLoans.{one_loan}
-use Rattle.urb_desk.specs.Desks.{DeskView, HasAccepted, IsJobOf, Sees, Tells, Works, control_job}
-use Rattle.urb_desk.specs.Desks.{told_of}
+use Rattle.urb_desk.specs.Desks.{AnswersAt, DeskView, HasAccepted, IsJobOf, Sees, Tells, Works}
+use Rattle.urb_desk.specs.Desks.{control_job, told_of}
+use Rattle.urb_desk.specs.internal.Desks.{IsWork}
 use Rattle.urb_turn.specs.Jobs.{node_of}
 use Rattle.urb_turn.specs.Loans.{IsLoan, LoansView}
 use Rattle.urb_turn.specs.Settlings.{Published}
@@ -594,17 +595,23 @@ works_grows opened before after asked said (inl w) =
 works_grows opened before after asked said (inr w) =
     prefix_same before.past after.past (sym w.1)
 
--- the same for a response, if memory was not refused for it
-pub answer_tells : {X E : Type 0} (opened : GroupView) (before after : DeskView) (asked : Asked)
-    (said : X → Said) (result : Result X E)
+-- So a response by the worker's result is one that the desk may give, if memory was not refused.
+pub answers_by_work : {X E : Type 0} (opened : GroupView) (before after : DeskView) (asked : Asked)
+    (said : X → Said) (result : Result X E) → IsWork asked
     → IfOk result (λ r. (after.node ≡ before.node) × Works opened before asked (said r) after)
-    → IfOk result (λ r. (after.node ≡ before.node) × Works opened before asked (said r) after
-    × Tells opened before.past after.past before.node asked (said r)
-    × IsPrefix before.past after.past)
-answer_tells opened before after asked said (Ok r) works = (
+    → IfOk result (λ r. AnswersAt opened before asked (said r) after)
+answers_by_work opened before after (Submit client number payload) said (Ok r) work works = (
   works.0,
   works.1,
-  works_tells opened before after asked (said r) works.1,
-  works_grows opened before after asked (said r) works.1,
+  works_tells opened before after (Submit client number payload) (said r) works.1,
+  works_grows opened before after (Submit client number payload) (said r) works.1,
 )
-answer_tells opened before after asked said (Err refused) works = tt
+answers_by_work opened before after (Ask control) said (Ok r) work works = (
+  works.0,
+  works.1,
+  works_tells opened before after (Ask control) (said r) works.1,
+  works_grows opened before after (Ask control) (said r) works.1,
+)
+answers_by_work opened before after (Read place max) said (Ok r) work works = absurd work
+answers_by_work opened before after (Wait place max millis) said (Ok r) work works = absurd work
+answers_by_work opened before after asked said (Err refused) work works = tt

@@ -7,7 +7,8 @@ ghost use Rattle.urb_client.specs.Requests.{asked_by};
 ghost use Rattle.urb_client.specs.Responses.{said_by};
 ghost use Rattle.urb_show.specs.Lists.{list_at};
 ghost use Rattle.urb_show.specs.Pages.{IsPageOf};
-ghost use Rattle.urb_desk.specs.Desks.{LearnsTold, Looks, Reads, Sees, Tells, Works, gone, told_of};
+ghost use Rattle.urb_desk.specs.Desks.{AnswersAt, LearnsTold, Looks, Reads, Sees, Works, gone};
+ghost use Rattle.urb_desk.specs.Desks.{told_of};
 ghost use mathlib.Core.List.{IsPrefix};
 ghost use Rattle.urb_desk.specs.internal.Desks.{IsTurnFor, IsWork};
 ghost use Rattle.urb_turn.specs.Loans.{Follows};
@@ -164,6 +165,7 @@ impl<'a, K: HouseName, R: Wait + Clock> NodeDesk<'a, K, R> {
 
     // The response for what the worker returned. If it is a turn of the request, the response is the
     // turn's, after the reader has learnt what it published. Otherwise the response is `Down`.
+    #[tactic(auto, using(crate::proofs::DeskEvents::works_by_turn))]
     fn respond_if_asked(&mut self, request: &Request, finished: Finished<K>) -> Response
         ensures node { self.new.node ≡ self.old.node }
         ensures works { Works K.origin self.old (asked_by request.now) (said_by result) self.new }
@@ -217,11 +219,8 @@ impl<'a, K: HouseName, R: Wait + Clock> NodeDesk<'a, K, R> {
     // Has the worker do what a request asks, and learns what the worker published.
     fn work(&mut self, request: &Request) -> Result<Response, NoMemory>
         requires { IsWork (asked_by request.now) }
-        ensures answered { IfOk result (λ response. (self.new.node ≡ self.old.node)
-            × Works K.origin self.old (asked_by request.now) (said_by response) self.new
-            × Tells K.origin self.old.past self.new.past self.old.node (asked_by request.now)
-            (said_by response)
-            × IsPrefix self.old.past self.new.past) }
+        ensures answered { IfOk result (λ response.
+            AnswersAt K.origin self.old (asked_by request.now) (said_by response) self.new) }
         ensures refused { OnErr result (self.new ≡ self.old) }
     {
         let came = self.queue.ask(self.rt, self.alloc, request);

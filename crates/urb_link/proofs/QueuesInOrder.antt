@@ -1,5 +1,5 @@
 -- Which node the queue at a place belongs to.
-use Rattle.std.proofs.Common.{List, None, Some, ap, arith, length, slice_get, suc, sym, zero, ℕ}
+use Rattle.std.proofs.Common.{List, Some, ap, arith, length, slice_get, suc, sym, zero, ℕ}
 use Rattle.std.proofs.Common.{◌+◌, ◌∙◌, ◌∷◌, ◌≡◌}
 use Rattle.urb_names.specs.Nodes.{nodes, numbers_from}
 

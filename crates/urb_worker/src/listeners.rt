@@ -78,6 +78,7 @@ fn listener_of<'s, K: HouseName, H: Reporter, R: Wait + Clock>(
     requires node { (queue.now ≤ length setting.now.stations.now) × (queue.now ≤ length K.base) }
     requires room { queue.now ≤ vec_len room.now.nodes }
     ensures queue { result.queue.now ≡ queue.now }
+    ensures desk { result.desk.node ≡ queue.now }
     ensures station { slice_get setting.now.stations.now (queue.now - 1)
         ≡ Some result.station.now }
     ensures connections { option_map (λ node. node.0)
@@ -121,13 +122,12 @@ impl AllListening {
     }
 
     // Those of one node more were started: of the next node, at its station.
-    fn with(self, _stations: &[Station], listening: Listening<'_>) -> AllListening
+    fn with(self, _stations: &[Station], _listening: &Listening<'_>) -> AllListening
         requires room { self.last < MAX_NODES }
-        requires next { listening.node ≡ self.last + 1 }
-        requires station { slice_get _stations.now self.last ≡ Some listening.station.now }
+        requires next { _listening.now.node ≡ self.last + 1 }
+        requires station { slice_get _stations.now self.last ≡ Some _listening.now.station.now }
         ensures { result.last ≡ self.last + 1 }
     {
-        drop(listening);
         AllListening {
             last: self.last + 1,
         }
@@ -165,7 +165,7 @@ fn start_threads<'s, E, K: HouseName + Send + Sync, H: Reporter, R: Wait + Clock
     for place in 0..queues.len() {
         let listener = listener_of(setting, room, stop, &queues[place]);
         let started = start_listeners(scope, listener)?;
-        listening = listening.with(setting.stations, started);
+        listening = listening.with(setting.stations, &started);
     }
     let queues = TickQueues::of(queues).unwrap();
     let ticking = start_timer(scope, rt, stop, tick_millis, queues)?;

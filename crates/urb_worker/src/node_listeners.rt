@@ -13,7 +13,7 @@ use urb_link::{Door, NodeQueue, Station, Stop, pass_rings, receive};
 use urb_names::NodeId;
 use urb_show::HouseName;
 
-/// A node, with what its listeners use. Its desk is at the node of the queue.
+/// A node, with what its listeners use.
 #[derive(Drop)]
 pub(crate) struct NodeListener<'a, K: HouseName, R: Wait + Clock> {
     pub(crate) rt: &'a R,
@@ -24,7 +24,6 @@ pub(crate) struct NodeListener<'a, K: HouseName, R: Wait + Clock> {
     pub(crate) connections: &'a Connections,
     pub(crate) refusals: &'a Refusals,
     pub(crate) desk: NodeDesk<'a, K, R>,
-    ghost same: { desk.node ≡ queue.now },
 }
 
 /// The witness that a thread takes the datagrams of a station for the worker of a node. Only
@@ -152,6 +151,7 @@ pub(crate) fn start_listeners<'s, E, K: HouseName + Send + Sync, R: Wait + Clock
     scope: &'s Scope<'s, E>,
     listener: NodeListener<'s, K, R>,
 ) -> Option<Listening<'s>>
+    requires { listener.desk.node ≡ listener.queue.now }
     ensures node { IfSome result (λ it. it.node ≡ listener.entry.queue.now) }
     ensures station { IfSome result (λ it. it.station.now ≡ listener.entry.station.now) }
 {
