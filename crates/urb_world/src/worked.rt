@@ -31,3 +31,4 @@ pub mod survivals;
 pub mod tails;
 pub mod telling;
 pub mod ticks;
+pub mod worlds_as_stored;
