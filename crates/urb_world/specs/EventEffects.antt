@@ -1,8 +1,8 @@
--- At which node an event happens, and which events store nothing.
+-- Each event happens at one node, and most events store no record.
 use Rattle.std.specs.Prelude.{ℕ}
 use Rattle.urb_world.specs.Step.{Arrive, Commit, Crash, Event, Fail, Restart, Submit, Tick}
 
--- the node at which an event happens
+-- The event happens at this node.
 abbrev pub event_node : Event → ℕ
 event_node (Submit p m) = p
 event_node (Arrive p bytes) = p
