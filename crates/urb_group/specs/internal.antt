@@ -5,3 +5,4 @@ pub mod ClusterTies
 pub mod CallReplies
 pub mod StoreRetrievals
 pub mod TailChecks
+pub mod ExampleStores

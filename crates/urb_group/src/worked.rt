@@ -5,3 +5,4 @@ pub mod commands;
 pub mod played_rounds;
 pub mod shown;
 pub mod stores;
+pub mod stores_ahead;
