@@ -38,13 +38,13 @@ fn each_growth_may_be_refused(rt: HostRuntime) -> Result<(), Fail> {
     let calm = Refusing::new(rt.alloc(), 0);
     let first = Refusing::new(rt.alloc(), 1);
     let refused = match foresee_two::<&Refusing<Global>>(&first, &calm) {
-        Some(counts) => counts.as_slice() == [0, 1, 2],
+        Some(counts) => counts.as_slice() == [0, 1, 2].as_slice(),
         None => false,
     };
     assert!(rt; refused && first.has_failed());
     let second = Refusing::new(rt.alloc(), 100);
     let calmly = match foresee_two::<&Refusing<Global>>(&second, &calm) {
-        Some(counts) => counts.as_slice() == [1, 2],
+        Some(counts) => counts.as_slice() == [1, 2].as_slice(),
         None => false,
     };
     assert!(rt; calmly && !second.has_failed());
