@@ -19,19 +19,22 @@ import re
 import shutil
 import signal
 import subprocess
-from collections.abc import Iterable, Iterator, Sequence
+from collections.abc import Container, Iterable, Iterator, Sequence
 from dataclasses import dataclass, field
 from pathlib import Path
 
 from tools.believed import Definition, Specs, imports_of
 from tools.functions import Head, heads_of
-from tools.tree import Tree
+from tools.tree import Tree, crates_below
 from tools.weakening import FEW_NODES, Version, block_of, own_lines, split_at, with_imports
 from tools.weakening import without_margin
 
 CLAUSE = re.compile(r"^\s*ensures (?:(\w+) )?\{", re.MULTILINE)
 USES = re.compile(r"^(?:pub )?use [^{\n]*(?:\{[^}]*\})?[^\n]*\n", re.MULTILINE)
 LEMMA = re.compile(r"^use Rattle\.(urb_\w+)\.proofs\.([\w.]+)\.\{([^}]*)\}", re.MULTILINE)
+# The names that a crate's proofs/Common.antt passes on, and a proof that imports some of them.
+PASSED_ON = re.compile(r"^(?:unfoldable )?pub use Rattle\.([\w.]+)\.\{([^}]*)\}", re.MULTILINE)
+SHARED = re.compile(r"^use Rattle\.(\w+)\.proofs\.Common\.\{([^}]*)\}\n", re.MULTILINE)
 IMPORT = re.compile(
     r"^((?:ghost )?)use Rattle\.(\w+)\.specs\.((?:internal\.)?\w+)\.\{([^}]*)\}(;?)\n",
     re.MULTILINE,
@@ -150,14 +153,43 @@ def examples_of(specs: Specs, crate: str) -> Iterator[Example]:
                 yield Example(path, head, tuple(clauses))
 
 
-def foreign_lemmas(proof: str, definition: Definition, crate: str) -> set[str]:
-    """The lemmas that a proof imports, and that may speak of a definition of this crate."""
+def foreign_lemmas(proof: str, below: Container[str]) -> set[str]:
+    """The lemmas that a proof imports, and that may speak of a definition.
+
+    Those of the crates below its own, which are given, can't.
+    """
     found: set[str] = set()
     for owner, module, names in LEMMA.findall(proof):
-        is_below = owner != crate and definition.crate == crate
-        if not module.startswith("worked.") and not is_below:
-            found.update(name.strip() for name in names.split(","))
+        if not module.startswith("worked.") and owner not in below:
+            found.update(names_in(names))
     return found
+
+
+def names_in(names: str) -> list[str]:
+    """The names of an import."""
+    return [it.strip() for it in names.split(",") if it.strip()]
+
+
+def passed_on(text: str) -> dict[str, str]:
+    """The names that a file passes on, each with the module that it comes from."""
+    return {name: module for module, names in PASSED_ON.findall(text) for name in names_in(names)}
+
+
+def unshared(proof: str, origins: dict[str, dict[str, str]]) -> str:
+    """A proof that imports each name from where it comes from, and not from a file Common.
+
+    `origins` has the names that the file of each crate passes on.
+    """
+
+    def split(found: re.Match[str]) -> str:
+        crate, names = found.groups()
+        lines: dict[str, list[str]] = {}
+        for name in names_in(names):
+            module = origins.get(crate, {}).get(name, f"{crate}.proofs.Common")
+            lines.setdefault(module, []).append(name)
+        return "".join(f"use Rattle.{at}.{{{', '.join(own)}}}\n" for at, own in lines.items())
+
+    return SHARED.sub(split, proof)
 
 
 def redirected(text: str, moved: dict[tuple[str, str, str], str]) -> str:
@@ -166,7 +198,7 @@ def redirected(text: str, moved: dict[tuple[str, str, str], str]) -> str:
     def split(found: re.Match[str]) -> str:
         begin, crate, module, names, end = found.groups()
         lines: dict[str, list[str]] = {}
-        for name in filter(None, (it.strip() for it in names.split(","))):
+        for name in names_in(names):
             own = f"Rattle.{crate}.specs.{module}"
             lines.setdefault(moved.get((crate, module, name), own), []).append(name)
         return "".join(
@@ -222,15 +254,20 @@ class Room:
                 shutil.copytree(built, there / "rlib")
         self.examples = list(examples_of(self.specs, crate))
         self.closures = {it: closure(self.specs, [it]) for it in self.specs.text}
+        self.origins = {
+            path.parent.parent.name: passed_on(path.read_text())
+            for path in self.folder.parent.glob("*/proofs/Common.antt")
+        }
 
     def proof_of(self, example: Example) -> str:
         path = self.folder / example.answers
-        return path.read_text() if path.exists() else ""
+        return unshared(path.read_text(), self.origins) if path.exists() else ""
 
     def counting(self, example: Example, version: Version) -> list[str]:
         """The clauses of an example that may refuse a version."""
         proof, found = self.proof_of(example), []
-        foreign = foreign_lemmas(proof, version.definition, self.crate)
+        below = crates_below(self.specs.tree, version.definition.crate)
+        foreign = foreign_lemmas(proof, below)
         spoilt = {goal for name in foreign for goal in resting_on(proof, name)}
         for clause in example.clauses:
             rests = any(version.definition in self.closures[it] for it in clause.cited)

@@ -53,3 +53,25 @@ class Tree:
 def crate_of(tree: Tree, path: Path) -> str:
     """The name of the crate in which a file stands."""
     return path.relative_to(tree.crates).parts[0]
+
+
+def uses_of(tree: Tree) -> dict[str, list[str]]:
+    """The libraries that each crate of crates.txt uses by its own line."""
+    uses: dict[str, list[str]] = {}
+    for line in tree.text_of("crates.txt").splitlines():
+        name, colon, rest = line.split("#")[0].partition(":")
+        if colon:
+            uses[name.split()[0]] = rest.split()
+    return uses
+
+
+def crates_below(tree: Tree, crate: str) -> set[str]:
+    """Those of the repository's crates on which a crate rests, as crates.txt lists them."""
+    uses = uses_of(tree)
+    below, waiting = set[str](), list(uses.get(crate, ()))
+    while waiting:
+        name = waiting.pop()
+        if name in uses and name not in below:
+            below.add(name)
+            waiting += uses[name]
+    return below

@@ -32,7 +32,7 @@ from pathlib import Path
 from tools import judging
 from tools.believed import Definition, Specs, under_names
 from tools.functions import heads_of
-from tools.tree import Tree
+from tools.tree import Tree, uses_of
 from tools.weakening import Rules, Version, changed_file
 
 # Where the prover reports what it didn't prove, and what it says of it. (Before its end it says the
@@ -58,11 +58,7 @@ class Verdict:
 
 def crates_above(tree: Tree, crate: str) -> list[str]:
     """This crate and those that use it, lowest first, without those that only have tests."""
-    uses: dict[str, list[str]] = {}
-    for line in tree.text_of("crates.txt").splitlines():
-        name, colon, rest = line.split("#")[0].partition(":")
-        if colon:
-            uses[name.split()[0]] = rest.split()
+    uses = uses_of(tree)
     found, order = {crate}, [crate]
     while True:
         more = [it for it in uses if it not in found and found & set(uses[it])]

@@ -23,7 +23,7 @@ from pathlib import Path
 
 from tools.believed import Specs
 from tools.judging import Example, Room, Run, Trial, examples_of
-from tools.tree import Misfit, Tree
+from tools.tree import Misfit, Tree, crates_below
 from tools.weakening import Rules, Version
 
 PAGE = "docs/WRONG_DEFINITIONS.md"
@@ -158,17 +158,7 @@ def listed_versions(tree: Tree) -> Iterable[Misfit]:
 
 def missing_libraries(tree: Tree, crate: str) -> list[str]:
     """The crates below this one that have no built library."""
-    uses: dict[str, list[str]] = {}
-    for line in tree.text_of("crates.txt").splitlines():
-        name, colon, rest = line.split("#")[0].partition(":")
-        if colon:
-            uses[name.split()[0]] = rest.split()
-    below, waiting = set[str](), list(uses.get(crate, ()))
-    while waiting:
-        name = waiting.pop()
-        if name in uses and name not in below:
-            below.add(name)
-            waiting += uses[name]
+    below = crates_below(tree, crate)
     return sorted(it for it in below if not tree.has(f"crates/{it}/out/rlib/{it}.rlib"))
 
 

@@ -5,8 +5,9 @@ Clauses list what goes through a worker's outlets (`WorkerOutlets`), and nothing
 same table holds that one function alone calls a socket's `send_to`, and makes the witness of it.
 
 Clauses say what goes into a worker's queue: through a desk's way in what a request asks, through a
-receiver's way in arrivals, and through the timer's ticks. Whoever has the sender itself could put
-anything there. So few places name its type, and another table holds that.
+receiver's way in arrivals, and through the timer's ticks. Whoever has the sender itself, or the
+queue that has it (`NodeQueue`), could put anything there. So few places name these types, and
+another table holds that.
 """
 from __future__ import annotations
 
@@ -17,8 +18,9 @@ from collections.abc import Iterator, Mapping
 from tools.checks.calls import misplaced_calls, without_comments
 from tools.tree import Misfit, Tree
 
-# A sender of tickets, as a type.
+# A sender of tickets, as a type, and the queue of a node's worker, which has one.
 SENDER = re.compile(r"\bSender\s*<\s*(?:\w+\s*::\s*)*Ticket\b")
+QUEUE = re.compile(r"\bNodeQueue\s*<")
 CALL = re.compile(r"\b(link\s*\.send|reporter\s*\.report|send_to)\(")
 # The places by call and file: how many there are.
 PLACES: Mapping[tuple[str, str], int] = {
@@ -35,20 +37,29 @@ HANDS: Mapping[tuple[str, str], int] = {
     # the ways in: of arrivals, of what requests ask, and of ticks
     ("Sender<Ticket>", "crates/urb_link/src/arrival_queue.rt"): 2,
     ("Sender<Ticket>", "crates/urb_desk/src/desk_queue.rt"): 2,
-    ("Sender<Ticket>", "crates/urb_link/src/tick_queue.rt"): 3,
+    ("NodeQueue", "crates/urb_link/src/tick_queue.rt"): 3,
     # the two offers of a ticket, which the ways in of arrivals and ticks make
     ("Sender<Ticket>", "crates/urb_link/src/offers.rt"): 2,
-    # what makes the ways in, with those that keep the senders for it and drop them
+    # the one function that sends a desk's ticket, with the witness if the worker is gone
+    ("Sender<Ticket>", "crates/urb_desk/src/lost.rt"): 1,
+    # the channel of a node's worker: its sender has the node beside it
+    ("Sender<Ticket>", "crates/urb_link/src/node_queue.rt"): 2,
+    ("NodeQueue", "crates/urb_link/src/node_queue.rt"): 5,
+    # what makes the ways in, with those that keep the queues for it and drop them
     ("Sender<Ticket>", "crates/urb_desk/src/node_service.rt"): 1,
-    ("Sender<Ticket>", "crates/urb_worker/src/listeners.rt"): 3,
-    ("Sender<Ticket>", "crates/urb_worker/src/worker_group.rt"): 2,
-    ("Sender<Ticket>", "crates/urb_worker/src/worker_threads.rt"): 2,
+    ("NodeQueue", "crates/urb_worker/src/group_room.rt"): 1,
+    ("NodeQueue", "crates/urb_worker/src/listeners.rt"): 4,
+    ("NodeQueue", "crates/urb_worker/src/node_listeners.rt"): 2,
+    ("NodeQueue", "crates/urb_worker/src/worker_threads.rt"): 2,
 }
 
 
 def senders_in(text: str) -> Counter[str]:
-    """How often a source names the type of a sender of tickets."""
-    return Counter("Sender<Ticket>" for _ in SENDER.findall(without_comments(text)))
+    """How often a source names the type of a sender of tickets, or of the queue that has one."""
+    code = without_comments(text)
+    found = Counter("Sender<Ticket>" for _ in SENDER.findall(code))
+    found.update("NodeQueue" for _ in QUEUE.findall(code))
+    return found
 
 
 def senders_of_tickets(

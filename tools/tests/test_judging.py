@@ -155,9 +155,24 @@ class Copies(JudgingTest):
 
     def test_lemmas_of_the_own_crate_may_speak_of_a_definition(self) -> None:
         proof = "use Rattle.urb_a.proofs.Runs.{kept}\nuse Rattle.urb_low.proofs.Lists.{ends}\n"
-        own, low = Definition("urb_a", "World", "Good"), Definition("urb_low", "Lists", "ends")
-        self.assertEqual(judging.foreign_lemmas(proof, own, "urb_a"), {"kept"})
-        self.assertEqual(judging.foreign_lemmas(proof, low, "urb_a"), {"kept", "ends"})
+        self.assertEqual(judging.foreign_lemmas(proof, {"urb_low"}), {"kept"})
+        self.assertEqual(judging.foreign_lemmas(proof, set()), {"kept", "ends"})
+
+    def test_a_shared_import_is_one_from_where_the_name_comes_from(self) -> None:
+        common = (
+            "-- Names.\npub use Rattle.std.proofs.Common.{ap, refl}\n"
+            "pub use Rattle.urb_a.specs.World.{Good}\npub use Rattle.urb_a.proofs.Runs.{kept}\n"
+        )
+        origins = {"urb_a": judging.passed_on(common)}
+        proof = "use Rattle.urb_a.proofs.Common.{Good, refl, kept, ap}\nuse Rattle.x.{y}\n"
+        expected = (
+            "use Rattle.urb_a.specs.World.{Good}\n"
+            "use Rattle.std.proofs.Common.{refl, ap}\n"
+            "use Rattle.urb_a.proofs.Runs.{kept}\n"
+            "use Rattle.x.{y}\n"
+        )
+        self.assertEqual(judging.unshared(proof, origins), expected)
+        self.assertEqual(judging.unshared(expected, origins), expected)
 
 
 STORES = """

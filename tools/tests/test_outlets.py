@@ -49,6 +49,7 @@ class Senders(TreeTest):
     def test_all_spellings_of_the_type_count(self) -> None:
         text = "Vec<Sender<Ticket<K>>>; &Sender<crate::Ticket<K>>; Sender<\n    Ticket<K>,\n>"
         self.assertEqual(outlets.senders_in(text), {"Sender<Ticket>": 3})
+        self.assertEqual(outlets.senders_in("&[NodeQueue<K>]; NodeQueue::node"), {"NodeQueue": 1})
 
     def test_other_types_and_comments_do_not(self) -> None:
         text = "Sender<Finished<K>>; Receiver<Ticket<K>>; TicketPlaces; // Sender<Ticket<K>>"

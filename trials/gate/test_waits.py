@@ -4,6 +4,7 @@ from __future__ import annotations
 import time
 import unittest
 from contextlib import ExitStack
+from dataclasses import replace
 
 from urbd.frames import Entries, GetStatus, Read, Response, Status, Wait
 from urbd.node import Connection
@@ -21,6 +22,8 @@ LONG = LONGEST / 1000
 # A wait that nothing ends, in milliseconds.
 SHORT = 1_500
 NOTHING: list[Response] = [Entries(())]
+# The longest time between two ticks, in milliseconds. A trial that needs no tick is over before.
+RARE_TICKS = 60_000
 
 
 class Waits(Case):
@@ -117,6 +120,19 @@ class Waits(Case):
             daemon.node(1).restart()
             self.submit(daemon, sent, b"two")
             self.gets(waiting, Entries((sent.entry(2),)))
+            daemon.stop()
+
+    def test_what_a_restart_brings_ends_it(self) -> None:
+        # No node ticks meanwhile. So node 3 gets the message from its own worker, which feeds it.
+        with self.program.serve(replace(self.options(nodes=3), tick_ms=RARE_TICKS)) as daemon:
+            sent = Sent(CLIENT, 1)
+            daemon.node(3).crash()
+            self.submit(daemon, sent, b"one")
+            with daemon.connect(3) as waiting:
+                waiting.send(Wait(1, 8, LONGEST))
+                time.sleep(0.2)
+                daemon.node(3).restart()
+                self.gets(waiting, Entries((sent.entry(1),)))
             daemon.stop()
 
     def test_all_followers_get_each_message(self) -> None:

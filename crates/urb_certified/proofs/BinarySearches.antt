@@ -1,13 +1,11 @@
 -- What a binary search finds among elements in rising order.
-use Rattle.std.proofs.Common.{◌≡◌, ℕ, zero, suc, ◌+◌, ◌<◌, ◌≤◌, Bool, true, false, cond, ◌||◌, ◌&&◌}
-use Rattle.std.proofs.Common.{List, [], ◌∷◌, length, get_or, filter, refl, sym, ap, ◌∙◌, subst}
-use Rattle.std.proofs.Common.{arith}
-use Rattle.std.specs.List.{list_all, list_any, prefix_len}
-use Rattle.std.specs.List.Sorted.{IsPartitionedBy, IsPartitionPoint}
-use Rattle.std.proofs.lemmas.Bool.{and_from, and_left, and_parts, and_right, cond-true, false≢true}
-use Rattle.std.proofs.lemmas.Bool.{false_from_ne_true, or_left, or_right}
-use Rattle.urb_names.specs.RisingLists.{is_rising}
-use Rattle.urb_certified.specs.internal.StrictOrders.{IsOrder}
+use Rattle.urb_certified.proofs.Common.{Bool, IsOrder, List, [], and_from, and_parts, ap, arith}
+use Rattle.urb_certified.proofs.Common.{cond, false, false_from_ne_true, false≢true, filter, get_or}
+use Rattle.urb_certified.proofs.Common.{is_rising, length, list_all, list_any, or_left, or_right}
+use Rattle.urb_certified.proofs.Common.{prefix_len, refl, subst, suc, sym, true, zero, ℕ, ◌&&◌, ◌+◌}
+use Rattle.urb_certified.proofs.Common.{◌<◌, ◌||◌, ◌∙◌, ◌∷◌, ◌≡◌, ◌≤◌}
+use Rattle.std.specs.List.Sorted.{IsPartitionPoint, IsPartitionedBy}
+use Rattle.std.proofs.lemmas.Bool.{and_left, and_right, cond-true}
 use Rattle.urb_certified.proofs.RisingSets.{comes_after}
 
 module _ {X : Type 0} (before same : X → X → Bool) (laws : IsOrder before same) where

@@ -1,23 +1,20 @@
 -- The two parts after one more name.
-use Rattle.std.proofs.Common.{◌≡◌, ℕ, suc, ◌+◌, ◌-◌, ◌<◌, ◌≤◌, ◌^◌, ◌||◌, ◌==◌, true}
-use Rattle.std.proofs.Common.{false, nat_le, List, ◌≢◌, filter}
-use Rattle.std.proofs.Common.{slice_set, refl, sym, ap, ◌∙◌, subst, inl, inr, ◌⊎◌, arith}
-use Rattle.std.proofs.lemmas.Bool.{and_from, and_parts, cases_Bool, cases_eq, cases_lt, cases_order}
-use Rattle.std.proofs.lemmas.Bool.{eq-eqb, eqb-true, false_from_ne_true, false≢true, le-leb}
-use Rattle.std.proofs.lemmas.Bool.{leb-true, not-false, not-true, or_cases, or_left, or_right}
+use Rattle.urb_certified.proofs.Common.{IsJoined, IsParts, Label, List, all_names, and_from}
+use Rattle.urb_certified.proofs.Common.{and_parts, any_insert, ap, arith, both_ways, cases_eq}
+use Rattle.urb_certified.proofs.Common.{cases_lt, cases_order, false, false_from_ne_true}
+use Rattle.urb_certified.proofs.Common.{false≢true, filter, has_name, inl, inr, is_left, le-leb}
+use Rattle.urb_certified.proofs.Common.{low_of, name, name_lt, nat_le, or_cases, or_left, or_right}
+use Rattle.urb_certified.proofs.Common.{placed, refl, rising_placed, same_name, same_name-true}
+use Rattle.urb_certified.proofs.Common.{slice_set, subst, suc, sym, true, ℕ, ◌+◌, ◌-◌, ◌<◌, ◌==◌}
+use Rattle.urb_certified.proofs.Common.{◌^◌, ◌||◌, ◌∙◌, ◌≡◌, ◌≢◌, ◌≤◌, ◌⊎◌}
+use Rattle.std.proofs.lemmas.Bool.{cases_Bool, eq-eqb, eqb-true, leb-true, not-false, not-true}
 use Rattle.std.proofs.lemmas.Bool.{true_from_ne_false}
 use Rattle.std.proofs.lemmas.List.{get_or-set_other, get_or-set_same, length-set}
-use Rattle.urb_names.specs.LabelsAndContents.{Label, IsLabel}
-use Rattle.urb_names.specs.Names.{has_name, name, name_lt, same_name}
-use Rattle.urb_names.specs.RisingLists.{placed}
-use Rattle.urb_names.proofs.SameNames.{same_name-true}
-use Rattle.urb_names.proofs.ElementPlaces.{any_insert, names_ordered, rising_placed}
-use Rattle.urb_certified.specs.Parts.{all_names}
-use Rattle.urb_certified.specs.internal.PartInvariant.{IsJoined, IsParts, is_left, low_of}
+use Rattle.urb_names.specs.LabelsAndContents.{IsLabel}
+use Rattle.urb_names.proofs.ElementPlaces.{names_ordered}
 use Rattle.urb_certified.proofs.NameOrder.{names_in_order}
 use Rattle.urb_certified.proofs.BinarySearches.{filter_all, filter_has, filter_rises}
 use Rattle.urb_certified.proofs.PartMembers.{IsInRows, all_above, all_low, all_true}
-use Rattle.urb_names.proofs.TruthValues.{both_ways}
 
 -- a name of the sender that stays above has a number past the run's end
 pub left_behind : (s end : ℕ) (y : Label) → y.sender ≡ s → is_left s end y ≡ true → end < y.seq

@@ -1,16 +1,12 @@
 -- Two pairs of parts that hold the same names are equal.
-use Rattle.std.proofs.Common.{◌≡◌, ℕ, suc, ◌+◌, ◌-◌, ◌<◌, ◌≤◌, true, List, [], ◌∷◌, length}
-use Rattle.std.proofs.Common.{get_or, refl, sym, ap, ap₂, ◌∙◌, subst, inl, inr, ◌⊎◌, arith}
-use Rattle.urb_names.specs.LabelsAndContents.{Label}
-use Rattle.urb_names.specs.Names.{has_name, name_lt, same_name}
-use Rattle.urb_names.specs.Release.{beginning}
-use Rattle.urb_certified.specs.Parts.{all_names}
-use Rattle.urb_certified.specs.internal.PartInvariant.{IsParts, low_of}
+use Rattle.urb_certified.proofs.Common.{IsParts, Label, List, [], all_names, ap, ap₂, arith}
+use Rattle.urb_certified.proofs.Common.{beginning, both_ways, get_or, has_name, inl, inr, length}
+use Rattle.urb_certified.proofs.Common.{low_of, name_lt, refl, same_name, subst, suc, sym, true, ℕ}
+use Rattle.urb_certified.proofs.Common.{◌+◌, ◌-◌, ◌<◌, ◌∙◌, ◌∷◌, ◌≡◌, ◌≤◌, ◌⊎◌}
 use Rattle.urb_certified.proofs.RisingSets.{rising_same}
 use Rattle.urb_certified.proofs.NameOrder.{names_in_order}
 use Rattle.urb_certified.proofs.PartMembers.{IsInRows, all_above, all_true}
 use Rattle.urb_certified.proofs.SenderReaches.{held, held_has, reach_low}
-use Rattle.urb_names.proofs.TruthValues.{both_ways}
 
 same_numbers : (xs ys : List ℕ) → length xs ≡ length ys → ((i : ℕ) → get_or xs i 0 ≡ get_or ys i 0)
     → xs ≡ ys

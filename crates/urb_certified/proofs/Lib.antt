@@ -7,6 +7,7 @@
 -- binary search (`found_is`, `absent_is`). From `urb_names` come the order of names and the reach.
 -- Read the files in the order of the list below: sorted lists first, then the two parts, then a new
 -- name.
+mod Common
 pub mod RisingSets
 pub mod NameOrder
 pub mod BinarySearches

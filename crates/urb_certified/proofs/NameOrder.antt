@@ -1,8 +1,6 @@
 -- The order of names.
-use Rattle.urb_names.specs.Names.{name_lt, same_name}
+use Rattle.urb_certified.proofs.Common.{IsOrder, name_lt, same_name, same_name-same, same_name-true}
 use Rattle.urb_names.proofs.RisingPairs.{name_lt-one_way, name_lt-strict, name_lt-trans}
-use Rattle.urb_names.proofs.SameNames.{same_name-same, same_name-true}
-use Rattle.urb_certified.specs.internal.StrictOrders.{IsOrder}
 
 -- the order of names meets the laws of a strict order
 pub names_in_order : IsOrder name_lt same_name

@@ -1,16 +1,14 @@
 -- Which names the two parts hold.
-use Rattle.std.proofs.Common.{◌≡◌, ℕ, zero, suc, ◌+◌, ◌-◌, ◌<◌, ◌≤◌, true, false, List, [], ◌∷◌}
-use Rattle.std.proofs.Common.{◌||◌, map, get_or, refl, sym, ◌∙◌, subst, inl, inr, ◌⊎◌, arith}
-use Rattle.std.proofs.lemmas.Bool.{cases_eq, false≢true, or_cases, or_left, or_right}
+use Rattle.urb_certified.proofs.Common.{Label, List, [], all_names, arith, both_ways, cases_eq}
+use Rattle.urb_certified.proofs.Common.{false, false≢true, get_or, has_name, inl, inr, low_of, map}
+use Rattle.urb_certified.proofs.Common.{name, or_cases, or_left, or_right, refl, same_name}
+use Rattle.urb_certified.proofs.Common.{same_name-true, subst, suc, sym, true, zero, ℕ, ◌+◌, ◌-◌}
+use Rattle.urb_certified.proofs.Common.{◌<◌, ◌||◌, ◌∙◌, ◌∷◌, ◌≡◌, ◌≤◌, ◌⊎◌}
 use Rattle.std.proofs.lemmas.List.Folds.{list_any-append}
-use Rattle.urb_names.specs.LabelsAndContents.{Label}
 use Rattle.urb_names.specs.Nodes.{numbers_from}
-use Rattle.urb_names.specs.Names.{has_name, name, names, same_name}
-use Rattle.urb_names.proofs.SameNames.{same_name-true}
+use Rattle.urb_names.specs.Names.{names}
 use Rattle.urb_names.proofs.LogRows.{has-row}
-use Rattle.urb_certified.specs.Parts.{all_names, rows_from}
-use Rattle.urb_certified.specs.internal.PartInvariant.{low_of}
-use Rattle.urb_names.proofs.TruthValues.{both_ways}
+use Rattle.urb_certified.specs.Parts.{rows_from}
 
 -- a name in the row of k numbers from a on
 pub record IsInRow (s a k : ℕ) (y : Label) : Type 0 where

@@ -1,12 +1,10 @@
 -- Rising lists with the same elements are equal.
-use Rattle.std.proofs.Common.{◌≡◌, Bool, true, false, cond, ◌||◌, List, [], ◌∷◌, refl, sym}
-use Rattle.std.proofs.Common.{ap, ap₂, ◌∙◌, subst, inl, inr, ◌⊎◌}
-use Rattle.std.proofs.lemmas.Bool.{and_parts, false≢true, false_from_ne_true, or_cases, or_left}
-use Rattle.std.specs.List.{list_all, list_any}
-use Rattle.urb_names.specs.RisingLists.{is_rising, placed}
-use Rattle.urb_names.proofs.ElementPlaces.{IsStrictOrder, any_insert, rising_placed}
-use Rattle.urb_certified.specs.ListSets.{set_of}
-use Rattle.urb_certified.specs.internal.StrictOrders.{IsOrder}
+use Rattle.urb_certified.proofs.Common.{Bool, IsOrder, List, [], and_parts, any_insert, ap, ap₂}
+use Rattle.urb_certified.proofs.Common.{cond, false, false_from_ne_true, false≢true, inl, inr}
+use Rattle.urb_certified.proofs.Common.{is_rising, list_all, list_any, or_cases, or_left, placed}
+use Rattle.urb_certified.proofs.Common.{refl, rising_placed, set_of, subst, sym, true, ◌||◌, ◌∙◌}
+use Rattle.urb_certified.proofs.Common.{◌∷◌, ◌≡◌, ◌⊎◌}
+use Rattle.urb_names.proofs.ElementPlaces.{IsStrictOrder}
 
 module _ {X : Type 0} (before same : X → X → Bool) (laws : IsOrder before same) where
   strict_order : IsStrictOrder before same

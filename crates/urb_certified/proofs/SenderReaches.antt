@@ -1,17 +1,13 @@
 -- How far a sender's names go without a gap.
-use Rattle.std.proofs.Common.{◌≡◌, ℕ, suc, ◌+◌, ◌-◌, ◌<◌, ◌≤◌, ◌^◌, true, false, List, ◌∷◌}
-use Rattle.std.proofs.Common.{length, sym, ap, ◌∙◌, subst, inl, inr, ◌⊎◌, arith}
-use Rattle.std.proofs.lemmas.Bool.{cases_lt, cases_order, false_from_ne_true, false≢true, or_from}
-use Rattle.std.proofs.lemmas.Bool.{or_left, or_right}
-use Rattle.urb_names.specs.LabelsAndContents.{Label}
-use Rattle.urb_names.specs.Names.{has_name, name, name_lt, same_name}
-use Rattle.urb_names.specs.Release.{beginning}
-use Rattle.urb_names.proofs.SameNames.{same_name-same, same_name-true}
+use Rattle.urb_certified.proofs.Common.{IsParts, Label, List, all_names, ap, arith, beginning}
+use Rattle.urb_certified.proofs.Common.{cases_lt, cases_order, false, false_from_ne_true}
+use Rattle.urb_certified.proofs.Common.{false≢true, has_name, inl, inr, length, low_of, name}
+use Rattle.urb_certified.proofs.Common.{name_lt, or_left, or_right, same_name, same_name-same}
+use Rattle.urb_certified.proofs.Common.{same_name-true, set_of, subst, suc, sym, true, ℕ, ◌+◌, ◌-◌}
+use Rattle.urb_certified.proofs.Common.{◌<◌, ◌^◌, ◌∙◌, ◌∷◌, ◌≡◌, ◌≤◌, ◌⊎◌}
+use Rattle.std.proofs.lemmas.Bool.{or_from}
 use Rattle.urb_names.proofs.LogRows.{beginning_is, length-row, reach}
 use Rattle.urb_names.proofs.CertificateReaches.{reach-is}
-use Rattle.urb_certified.specs.ListSets.{set_of}
-use Rattle.urb_certified.specs.Parts.{all_names}
-use Rattle.urb_certified.specs.internal.PartInvariant.{IsParts, low_of}
 use Rattle.urb_certified.proofs.RisingSets.{set_has}
 use Rattle.urb_certified.proofs.NameOrder.{names_in_order}
 use Rattle.urb_certified.proofs.PartMembers.{IsInRows, all_above, all_low, all_true}

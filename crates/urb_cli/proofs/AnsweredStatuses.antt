@@ -1,16 +1,12 @@
 -- What the status of a submit or a read tells about the node's answer.
-use Rattle.std.proofs.Common.{◌≡◌, ◌⊎◌, ◌<◌, ℕ, List, Option, Some, None, Result, Ok, Err, ap}
-use Rattle.std.proofs.Common.{inl, inr, arith, length}
-use Rattle.std.specs.Prelude.{IfErr, IfOk}
-use Rattle.urb_names.specs.LabelsAndContents.{Label, Content}
+use Rattle.urb_cli.proofs.Common.{Accepted, Address, Asked, CallFault, Content, Done, Err, IfErr}
+use Rattle.urb_cli.proofs.Common.{IfOk, Label, List, Listing, None, Ok, Option, Printed, Refused}
+use Rattle.urb_cli.proofs.Common.{Result, Said, ShowsAnswer, Some, address_of, ap, arith, inl, inr}
+use Rattle.urb_cli.proofs.Common.{length, shown_by, ℕ, ◌<◌, ◌≡◌, ◌⊎◌}
 use Rattle.urb_names.specs.declared.limits.TheConstants.{MAX_PAYLOAD}
-use Rattle.urb_client.specs.Requests.{Asked}
-use Rattle.urb_client.specs.Responses.{Said, Accepted, Listing, Status, Done, Refused}
-use Rattle.urb_options.specs.Addresses.{Address, address_of}
-use Rattle.urb_cli.specs.Asking.{ShowsAnswer, ShowsSubmit, request_of_submitting}
-use Rattle.urb_cli.specs.ClientOutput.{Shown, read_shown, shown_by, submit_shown}
-use Rattle.urb_cli.specs.declared.client.call_fault.CallFault.{CallFault}
-use Rattle.urb_cli.specs.declared.client.printed.Printed.{Printed}
+use Rattle.urb_client.specs.Responses.{Status}
+use Rattle.urb_cli.specs.Asking.{ShowsSubmit, request_of_submitting}
+use Rattle.urb_cli.specs.ClientOutput.{Shown, read_shown, submit_shown}
 use Rattle.urb_options.specs.declared.task.SubmitOptions.{SubmitOptions}
 
 -- the status that is shown, if anything is

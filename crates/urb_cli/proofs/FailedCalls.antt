@@ -1,11 +1,8 @@
 -- The last call without a response.
-use Rattle.std.proofs.Common.{◌≡◌, ℕ, suc, inr, subst}
-use Rattle.std.specs.Prelude.{Err, IfErr, Ok, Option, Result}
+use Rattle.urb_cli.proofs.Common.{Asked, CallFault, Err, Fails, IfErr, Ok, Option, Result, Said}
+use Rattle.urb_cli.proofs.Common.{inr, subst, suc, ℕ, ◌≡◌}
 use Rattle.urb_client.specs.declared.response.Response.{Response}
-use Rattle.urb_client.specs.Requests.{Asked}
-use Rattle.urb_client.specs.Responses.{Said}
-use Rattle.urb_cli.specs.Calls.{Fails, GivesUp, answer_of}
-use Rattle.urb_cli.specs.declared.client.call_fault.CallFault.{CallFault}
+use Rattle.urb_cli.specs.Calls.{GivesUp, answer_of}
 use Rattle.urb_cli.specs.declared.client.caller.TheConstants.{TRIES}
 
 -- TRIES calls in a row got no response. If the next call gets none either, the request is given up.

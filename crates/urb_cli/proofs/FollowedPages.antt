@@ -1,14 +1,12 @@
 -- The responses that a follower prints, one after the other.
-use Rattle.std.proofs.Common.{◌≡◌, ℕ, ◌+◌, ◌<◌, List, [], ◌∷◌, ◌++◌, length, Option, Some, arith}
-use Rattle.std.proofs.Common.{inl, inr, refl, subst}
+use Rattle.urb_cli.proofs.Common.{Accepted, Asked, Content, Done, Follows, Goes, Label, List}
+use Rattle.urb_cli.proofs.Common.{Listing, Option, Refused, Said, Some, StreamFault, [], arith, inl}
+use Rattle.urb_cli.proofs.Common.{inr, length, refl, subst, ℕ, ◌++◌, ◌+◌, ◌<◌, ◌∷◌, ◌≡◌}
 use Rattle.std.proofs.lemmas.List.{length-append}
-use Rattle.urb_names.specs.LabelsAndContents.{Label, Content}
-use Rattle.urb_client.specs.Requests.{Asked}
-use Rattle.urb_client.specs.Responses.{Said, Accepted, Listing, Status, Done, Refused}
-use Rattle.urb_cli.specs.Following.{Follows, IsAnswered, IsFollowed, Prints, Reader, StopsAfter}
-use Rattle.urb_cli.specs.internal.Following.{Goes, IsUnprinted}
+use Rattle.urb_client.specs.Responses.{Status}
+use Rattle.urb_cli.specs.Following.{IsAnswered, IsFollowed, Prints, Reader, StopsAfter}
+use Rattle.urb_cli.specs.internal.Following.{IsUnprinted}
 use Rattle.urb_cli.specs.declared.client.call_fault.CallFault.TheVariants.{BadReply}
-use Rattle.urb_cli.specs.declared.client.stream_fault.StreamFault.{StreamFault}
 use Rattle.urb_cli.proofs.StepsMore.{one_step_more}
 
 module _ {C : Type 0} (calls : C → Asked → Option Said → C → Type 0)

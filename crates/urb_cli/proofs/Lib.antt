@@ -4,6 +4,7 @@
 -- for one more text (`one_more_text`). AnsweredStatuses, NodeStatuses and StreamEnds say what a
 -- status tells (`was_accepted`, `node_status`, `done_by_status`). PayloadDigits, PushedLines and
 -- TextTests have one lemma each, on how bytes are shown.
+mod Common
 mod PayloadDigits
 mod PushedLines
 mod StepsMore

@@ -1,15 +1,12 @@
 -- The status of calls that ask nodes for their states.
-use Rattle.std.proofs.Common.{◌≡◌, ◌⊎◌, ◌+◌, ◌==◌, ℕ, Option, Result, Ok, Err, inl, inr, add-one}
-use Rattle.std.specs.Prelude.{IfErr, IfOk, if◌then◌else◌}
-use Rattle.urb_client.specs.Requests.{Ask, Asked}
+use Rattle.urb_cli.proofs.Common.{Address, Asked, AsksEach, CallFault, Err, IfErr, IfOk, Ok, Option}
+use Rattle.urb_cli.proofs.Common.{Printed, Result, Said, ShowsAnswer, add-one, if◌then◌else◌, inl}
+use Rattle.urb_cli.proofs.Common.{inr, shown_by, ℕ, ◌+◌, ◌==◌, ◌≡◌, ◌⊎◌}
+use Rattle.urb_client.specs.Requests.{Ask}
 use Rattle.urb_client.specs.declared.request.Control.TheVariants.{Status}
-use Rattle.urb_client.specs.Responses.{Said}
-use Rattle.urb_options.specs.Addresses.{Address}
 use Rattle.urb_cli.specs.AskedAddresses.{address_after}
-use Rattle.urb_cli.specs.Asking.{AsksEach, HasNoAnswer, IsNodesStatus, ShowsAnswer}
-use Rattle.urb_cli.specs.ClientOutput.{shown_by, status_shown}
-use Rattle.urb_cli.specs.declared.client.call_fault.CallFault.{CallFault}
-use Rattle.urb_cli.specs.declared.client.printed.Printed.{Printed}
+use Rattle.urb_cli.specs.Asking.{HasNoAnswer, IsNodesStatus}
+use Rattle.urb_cli.specs.ClientOutput.{status_shown}
 
 -- what is shown of the node's answer, or that there is none, gives the status
 pub node_status : {S : Type 0} (answers : S → Address → Asked → Option Said → S → Type 0)

@@ -1,10 +1,9 @@
 -- The digits of bytes, as the crate for hexadecimal text writes them.
-use Rattle.std.proofs.Common.{◌≡◌, ℕ, zero, suc, ◌/◌, ◌%◌, ◌<◌, ◌==◌, Bool, true, ◌&&◌, inl, inr}
-use Rattle.std.proofs.Common.{List, [], ◌∷◌, slice_index, refl, sym, arith}
+use Rattle.urb_cli.proofs.Common.{Bool, IsBytes, List, [], arith, flat_map, flat_map-cons, inl, inr}
+use Rattle.urb_cli.proofs.Common.{refl, slice_index, suc, sym, true, zero, ℕ, ◌%◌, ◌&&◌, ◌/◌, ◌<◌}
+use Rattle.urb_cli.proofs.Common.{◌==◌, ◌∷◌, ◌≡◌}
 use Rattle.std.proofs.lemmas.Bool.{and_parts, cases_lt, eqb-true}
-use Rattle.std.proofs.lemmas.List.Concat.{flat_map-cons}
-use Rattle.std.specs.List.{flat_map}
-use Rattle.hex.specs.Hex.{IsBytes, encode_lower, encode_with, lower_digits}
+use Rattle.hex.specs.Hex.{encode_lower, encode_with, lower_digits}
 use Rattle.urb_cli.specs.ClientOutput.{hex_byte, hex_digit}
 
 -- whether the first n digits of its table are ours

@@ -1,9 +1,6 @@
 -- The texts that a publisher publishes, one after the other.
-use Rattle.std.proofs.Common.{ℕ, List, [], ◌∷◌, ◌++◌, Option}
-use Rattle.urb_client.specs.Requests.{Asked}
-use Rattle.urb_client.specs.Responses.{Said}
-use Rattle.urb_cli.specs.Calls.{Steps}
-use Rattle.urb_cli.specs.Publishing.{IsPublished, Progress}
+use Rattle.urb_cli.proofs.Common.{Asked, IsPublished, List, Option, Said, Steps, [], ℕ, ◌++◌, ◌∷◌}
+use Rattle.urb_cli.specs.Publishing.{Progress}
 use Rattle.urb_cli.proofs.StepsMore.{one_step_more}
 
 module _ {T C : Type 0} (gives : T → List ℕ → T → Type 0) (ends : T → T → Type 0)

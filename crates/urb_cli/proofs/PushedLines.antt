@@ -1,8 +1,7 @@
 -- Texts pushed one after the other, as a loop does.
-use Rattle.std.proofs.Common.{◌≡◌, ℕ, suc, ◌+◌, ◌<◌, List, ◌∷◌, ◌++◌, length, get_or, drop, ap, sym}
-use Rattle.std.proofs.Common.{◌∙◌, append_assoc, add-one, drop-cons}
-use Rattle.std.specs.List.{flat_map}
-use Rattle.std.proofs.lemmas.List.Concat.{flat_map-cons}
+use Rattle.urb_cli.proofs.Common.{List, add-one, ap, append_assoc, drop, drop-cons, flat_map}
+use Rattle.urb_cli.proofs.Common.{flat_map-cons, get_or, length, suc, sym, ℕ, ◌++◌, ◌+◌, ◌<◌, ◌∙◌}
+use Rattle.urb_cli.proofs.Common.{◌∷◌, ◌≡◌}
 
 -- one more text is pushed
 pub one_more : {X : Type 0} (f : X → List ℕ) (old new whole : List ℕ) (xs : List X) (i : ℕ) (x : X)

@@ -1,6 +1,5 @@
 -- One more step after others.
-use Rattle.std.proofs.Common.{◌≡◌, List, [], ◌∷◌, ◌++◌, refl, subst}
-use Rattle.urb_cli.specs.Calls.{Steps}
+use Rattle.urb_cli.proofs.Common.{List, Steps, [], refl, subst, ◌++◌, ◌∷◌, ◌≡◌}
 
 module _ {S X : Type 0} (step : S → X → S → Type 0) where
   -- one step after others is one more of them

@@ -1,10 +1,8 @@
 -- What the status of a command that makes many calls tells.
-use Rattle.std.proofs.Common.{◌≡◌, ◌⊎◌, ℕ, Result, Ok, Err, inl, inr, arith}
-use Rattle.std.specs.Prelude.{IfOk}
+use Rattle.urb_cli.proofs.Common.{Err, IfOk, Ok, Result, StreamFault, arith, inl, inr, ℕ, ◌≡◌, ◌⊎◌}
 use Rattle.urb_cli.specs.Streams.{status_of_stream}
 use Rattle.urb_cli.specs.declared.client.stream_fault.StreamEnd.{StreamEnd}
 use Rattle.urb_cli.specs.declared.client.stream_fault.StreamEnd.TheVariants as stream
-use Rattle.urb_cli.specs.declared.client.stream_fault.StreamFault.{StreamFault}
 
 -- with status 0 the command is done, if one end of two isn't possible for it
 pub done_by_status : (P Q : StreamEnd → Type 0) (outcome : Result StreamEnd StreamFault)

@@ -1,6 +1,5 @@
 -- Whether bytes are UTF-8, as the parser of texts tells it.
-use Rattle.std.proofs.Common.{◌≡◌, List, ℕ, Result, Ok, Err, true, sym}
-use Rattle.std.specs.Prelude.{MatchResult, is_ok}
+use Rattle.urb_cli.proofs.Common.{Err, List, MatchResult, Ok, Result, is_ok, sym, true, ℕ, ◌≡◌}
 use Rattle.std.specs.Str.{IsUtf8, is_utf8}
 use Rattle.std.proofs.lemmas.Bool.{false_from_ne_true}
 use Rattle.std.proofs.lemmas.Str.{IsUtf8-from_is_utf8, is_utf8-from_IsUtf8}

@@ -8,7 +8,7 @@ abbrev pub address_text : Address → List ℕ
 address_text (AtPort port) = decimal port
 address_text (AtSocket path) = path
 
--- the address of the node that comes so many nodes after this one; a socket is one node's alone
+-- The address of a node that comes `later` nodes after this one. A socket is one node's alone.
 abbrev pub address_after : Address → ℕ → Address
 address_after (AtPort port) later = AtPort (port + later)
 address_after (AtSocket path) later = AtSocket path

@@ -53,8 +53,8 @@ module _ {S : Type 0} (answers : S → Address → Asked → Option Said → S �
       ⊎ ((why : CallFault) × HasNoAnswer (status_shown at) at (Ask Status) old why new
       × (status ≡ 1))
 
-  -- So many nodes, at the addresses from this one on, were asked for their states, each once and in
-  -- order. This status is that of the first call that didn't end well, or 0 if all did.
+  -- The client asked `count` nodes for their states, at the addresses from this one on: each node
+  -- once, in order. This status is that of the first call that didn't end well, or 0 if all did.
   abbrev pub AsksEach : Address → S → ℕ → ℕ → S → Type 0
   AsksEach first old zero status new = (new ≡ old) × (status ≡ 0)
   AsksEach first old (suc count) status new =

@@ -1,10 +1,7 @@
 -- Entries pushed one after the other, as a loop does.
-use Rattle.std.proofs.Common.{◌≡◌, ℕ, suc, ◌+◌, ◌<◌, List, ◌∷◌, ◌++◌, length, get_or, drop, ap, sym}
-use Rattle.std.proofs.Common.{◌∙◌, append_assoc, add-one, drop-cons}
-use Rattle.std.specs.List.{flat_map}
-use Rattle.std.proofs.lemmas.List.Concat.{flat_map-cons}
-use Rattle.urb_names.specs.LabelsAndContents.{Label, Content}
-use Rattle.urb_client.specs.Listings.{entry_bytes}
+use Rattle.urb_client.proofs.Common.{Content, Label, List, add-one, ap, append_assoc, drop}
+use Rattle.urb_client.proofs.Common.{drop-cons, entry_bytes, flat_map, flat_map-cons, get_or}
+use Rattle.urb_client.proofs.Common.{length, suc, sym, ℕ, ◌++◌, ◌+◌, ◌<◌, ◌∙◌, ◌∷◌, ◌≡◌}
 
 -- once the next entry is pushed, the bytes and those of the later entries are still the whole
 pub one_more : (old new whole : List ℕ) (entries : List (Label × Content)) (i : ℕ)

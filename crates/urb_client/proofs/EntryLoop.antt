@@ -1,9 +1,8 @@
 -- Entries read one after the other, as a loop does.
-use Rattle.std.proofs.Common.{◌≡◌, ℕ, suc, ◌-◌, ◌+◌, ◌≤◌, ◌<◌, List, [], ◌∷◌, ◌++◌, Option, Some}
-use Rattle.std.proofs.Common.{None, refl, sym, ap, ◌∙◌, append_assoc, arith}
+use Rattle.urb_client.proofs.Common.{Content, Label, List, None, Option, Some, [], ap, append_assoc}
+use Rattle.urb_client.proofs.Common.{arith, entries_at, entry_at, refl, suc, sym, ℕ, ◌++◌, ◌+◌, ◌-◌}
+use Rattle.urb_client.proofs.Common.{◌<◌, ◌>>=◌, ◌∙◌, ◌∷◌, ◌≡◌, ◌≤◌}
 use Rattle.std.proofs.lemmas.List.{append-nil}
-use Rattle.urb_names.specs.LabelsAndContents.{Label, Content}
-use Rattle.urb_client.specs.internal.ParsedResponses.{◌>>=◌, entry_at, entries_at}
 
 -- what was read before, and what is still read
 abbrev pub with_front : List (Label × Content) → Option (List (Label × Content) × List ℕ)

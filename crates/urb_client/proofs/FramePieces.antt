@@ -1,17 +1,14 @@
 -- The front of the input, as `read_frame` reads it.
-use Rattle.std.proofs.Common.{◌≡◌, ◌≢◌, ◌⊎◌, ℕ, ◌^◌, ◌<◌, ◌≤◌, List, [], ◌++◌, Option, Some, None}
-use Rattle.std.proofs.Common.{Result, Ok, Err, length, take, drop, refl, sym, ap, ◌∙◌, subst, arith}
-use Rattle.std.proofs.Common.{inl, inr, append_assoc, length-append, length-take, take_all, take_at}
-use Rattle.std.specs.Prelude.{IfSome, IsSomeAnd, OnErr}
-use Rattle.std.specs.Io.KnownBytes.{Consumes, IsAtEnd}
-use Rattle.std.proofs.KnownBytes.{Consumes-trans}
-use Rattle.std.proofs.lemmas.List.{append-nil, nil_from_length, length-drop}
-use Rattle.byteorder.specs.Endian.{big_number, big_bytes}
-use Rattle.urb_client.specs.Responses.{frame}
-use Rattle.urb_client.specs.Sessions.{IsBroken}
-use Rattle.urb_client.specs.internal.SessionPieces.{PartRead, ReadsUnder}
+use Rattle.urb_client.proofs.Common.{Consumes, Consumes-trans, Err, IfSome, IsAtEnd, IsBroken}
+use Rattle.urb_client.proofs.Common.{IsSomeAnd, LONGEST_REQUEST, List, None, Ok, OnErr, Option}
+use Rattle.urb_client.proofs.Common.{PartRead, Result, Some, [], ap, append_assoc, arith, big_bytes}
+use Rattle.urb_client.proofs.Common.{big_number, drop, frame, inl, inr, length, length-drop}
+use Rattle.urb_client.proofs.Common.{nil_from_length, refl, subst, sym, take, ℕ, ◌++◌, ◌<◌, ◌^◌}
+use Rattle.urb_client.proofs.Common.{◌∙◌, ◌≡◌, ◌≢◌, ◌≤◌, ◌⊎◌}
+use Rattle.std.proofs.Common.{length-append, length-take, take_all, take_at}
+use Rattle.std.proofs.lemmas.List.{append-nil}
+use Rattle.urb_client.specs.internal.SessionPieces.{ReadsUnder}
 use Rattle.urb_client.proofs.ResponseParts.{IsBytes, two}
-use Rattle.urb_client.specs.declared.format.TheConstants.{LONGEST_REQUEST}
 
 -- two bytes are the length that they say
 pub two_bytes : (bytes : List ℕ) → IsBytes bytes → length bytes ≡ 2

@@ -7,6 +7,7 @@
 -- Then read sessions: FramePieces, the file of `is_read_once`, SessionProgress, and ReceivedFrames
 -- on the client's side. PageLists is about pages. FullReads, EntryLoop and EntryBytes are each
 -- about one loop of the code.
+mod Common
 pub mod FullReads
 pub mod EntryLoop
 pub mod SingleReading

@@ -1,16 +1,14 @@
 -- How many bytes the prefixes of a page take, and which entries of a log a reader gets.
-use Rattle.std.proofs.Common.{◌≡◌, ◌∙◌, ℕ, ◌+◌, ◌<◌, ◌≤◌, List, [], ◌∷◌, ◌++◌, length, get_or}
-use Rattle.std.proofs.Common.{take, drop, refl, sym, ap, arith, append_assoc, length-append}
-use Rattle.std.proofs.Common.{length-take, take_at, drop_at, inl, inr}
-use Rattle.std.specs.List.{flat_map}
-use Rattle.std.proofs.lemmas.Bool.{cases_lt}
-use Rattle.std.proofs.lemmas.List.{append-nil, length-take-le, nil_from_length, take-append-drop}
-use Rattle.std.proofs.lemmas.List.{take-take, take_all, take_more}
-use Rattle.std.proofs.lemmas.List.Concat.{flat_map-append, flat_map-cons}
-use Rattle.urb_names.specs.LabelsAndContents.{Label, Content}
-use Rattle.urb_client.specs.declared.format.TheConstants.{LONGEST_FRAME, LISTING_HEAD, ENTRY_HEAD}
-use Rattle.urb_client.specs.Pages.{IsReadWhole, ListsPage}
-use Rattle.urb_client.specs.Listings.{entry_bytes, entry_head, listing_body}
+use Rattle.urb_client.proofs.Common.{Content, ENTRY_HEAD, LISTING_HEAD, LONGEST_FRAME, Label, List}
+use Rattle.urb_client.proofs.Common.{ListsPage, [], ap, append_assoc, arith, cases_lt, drop}
+use Rattle.urb_client.proofs.Common.{entry_bytes, entry_head, flat_map, flat_map-cons, get_or, inl}
+use Rattle.urb_client.proofs.Common.{inr, length, listing_body, nil_from_length, refl, sym, take}
+use Rattle.urb_client.proofs.Common.{take-append-drop, take_more, ℕ, ◌++◌, ◌+◌, ◌<◌, ◌∙◌, ◌∷◌, ◌≡◌}
+use Rattle.urb_client.proofs.Common.{◌≤◌}
+use Rattle.std.proofs.Common.{drop_at, length-append, length-take, take_at}
+use Rattle.std.proofs.lemmas.List.{append-nil, length-take-le, take-take, take_all}
+use Rattle.std.proofs.lemmas.List.Concat.{flat_map-append}
+use Rattle.urb_client.specs.Pages.{IsReadWhole}
 
 -- the bytes of entries
 abbrev pub size : List (Label × Content) → ℕ

@@ -1,13 +1,11 @@
 -- Whether the front of the input is a response.
-use Rattle.std.proofs.Common.{◌≡◌, ℕ, ◌^◌, ◌<◌, ◌≤◌, List, [], ◌++◌, Option, Some, None, length}
-use Rattle.std.proofs.Common.{take, refl, sym, ap, ◌∙◌, subst, arith, append_assoc, length-append}
-use Rattle.std.proofs.Common.{length-take, take_all, take_at}
-use Rattle.std.specs.Prelude.{IfSome}
-use Rattle.std.specs.Io.KnownBytes.{Consumes, IsAtEnd}
-use Rattle.std.proofs.KnownBytes.{Consumes-trans}
-use Rattle.byteorder.specs.Endian.{big_bytes}
-use Rattle.urb_client.specs.Responses.{Said, IsSaid, Accepted, Listing, Status, Done, Refused}
-use Rattle.urb_client.specs.Responses.{frame, response_body}
+use Rattle.urb_client.proofs.Common.{Accepted, Consumes, Consumes-trans, Done, IfSome, IsAtEnd}
+use Rattle.urb_client.proofs.Common.{IsSaid, List, Listing, None, Option, Refused, Said, Some, []}
+use Rattle.urb_client.proofs.Common.{ap, append_assoc, arith, big_bytes, frame, length, refl}
+use Rattle.urb_client.proofs.Common.{response_body, subst, sym, take, ℕ, ◌++◌, ◌<◌, ◌^◌, ◌∙◌, ◌≡◌}
+use Rattle.urb_client.proofs.Common.{◌≤◌}
+use Rattle.std.proofs.Common.{length-append, length-take, take_all, take_at}
+use Rattle.urb_client.specs.Responses.{Status}
 use Rattle.urb_client.specs.MissingResponses.{HasNoResponse}
 use Rattle.urb_client.specs.internal.MissingFrames.{HasNoFrame}
 use Rattle.urb_client.proofs.SingleReading.{one_length}

@@ -1,23 +1,20 @@
 -- If bytes are read as a request, they are its encoding; and the encoding of a request is read as
 -- that request.
-use Rattle.std.proofs.Common.{◌≡◌, ℕ, ◌<◌, ◌≤◌, true, false, cond, Bool, List, [], ◌∷◌, ◌++◌}
-use Rattle.std.proofs.Common.{length, drop, Result, Ok, Err, Option, Some, None, refl, sym, ap, subst, ◌∙◌, arith}
-use Rattle.std.proofs.Common.{drop-cons}
-use Rattle.std.specs.Prelude.{nat_lt, ◌==◌, slice_index, IfOk}
-use Rattle.std.proofs.lemmas.Bool.{eqb-true, ltb-false}
-use Rattle.std.proofs.lemmas.Bool.Decides.{nat_tests}
-use Rattle.std.proofs.lemmas.List.{nil_from_length, drop-drop, length-drop}
+use Rattle.urb_client.proofs.Common.{Asked, Bool, Err, IfOk, List, MOST_ENTRIES, None, Ok, Option}
+use Rattle.urb_client.proofs.Common.{Result, Some, [], ap, arith, big_bytes, big_number, cond, drop}
+use Rattle.urb_client.proofs.Common.{drop-cons, eqb-true, false, length, length-drop, ltb-false}
+use Rattle.urb_client.proofs.Common.{nat_lt, nil_from_length, refl, request_of, slice_index, subst}
+use Rattle.urb_client.proofs.Common.{sym, true, ℕ, ◌++◌, ◌<◌, ◌==◌, ◌∙◌, ◌∷◌, ◌≡◌, ◌≤◌}
 use Rattle.std.proofs.Common.{append-nil}
-use Rattle.urb_client.specs.declared.format.TheConstants.{MOST_ENTRIES}
-use Rattle.byteorder.specs.Endian.{big_number, big_bytes}
+use Rattle.std.proofs.lemmas.Bool.Decides.{nat_tests}
+use Rattle.std.proofs.lemmas.List.{drop-drop}
 use Rattle.urb_names.specs.declared.refusal.Refusal.{Refusal}
 use Rattle.urb_client.specs.declared.request.Control.{Control}
 use Rattle.urb_client.specs.declared.request.Control.TheVariants.{Crash, Restart, Status}
-use Rattle.urb_client.specs.Requests.{Asked, Ask, Submit, Read, Wait, IsAsked, control_fields}
-use Rattle.urb_client.specs.Requests.{control_of, opcode_of}
-use Rattle.urb_client.specs.Requests.{IsSubmit, Gives, submit_fields, read_fields, no_fields}
-use Rattle.urb_client.specs.Requests.{request_of, request_body, wait_fields}
-use Rattle.urb_client.proofs.ResponseParts.{IsBytes, IsBytes-rest, IsBytes-drop, by_test, two, four}
+use Rattle.urb_client.specs.Requests.{Ask, Gives, IsAsked, IsSubmit, Read, Submit, Wait}
+use Rattle.urb_client.specs.Requests.{control_fields, control_of, no_fields, opcode_of, read_fields}
+use Rattle.urb_client.specs.Requests.{request_body, submit_fields, wait_fields}
+use Rattle.urb_client.proofs.ResponseParts.{IsBytes, IsBytes-drop, IsBytes-rest, by_test, four, two}
 
 -- fields that are long enough, with a client that isn't 0, are a submit
 pub is_submit : (fields : List ℕ) → 6 ≤ length fields → 0 < big_number 2 fields

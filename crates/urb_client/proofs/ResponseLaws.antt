@@ -1,29 +1,24 @@
 -- If bytes are read as a response, they are its encoding; and the encoding of a response is read as
 -- that response.
-use Rattle.std.proofs.Common.{◌≡◌, ℕ, zero, suc, ◌^◌, ◌<◌, ◌≤◌, true, false, cond, Bool, List, []}
-use Rattle.std.proofs.Common.{◌∷◌, ◌++◌, length, Option, Some, None, Result, Ok, Err, refl, sym, ap}
-use Rattle.std.proofs.Common.{subst, ◌∙◌, append_assoc, arith}
-use Rattle.std.specs.Prelude.{nat_lt, ◌==◌, IfSome, IfOk}
-use Rattle.std.specs.List.{flat_map, AllByRecursion}
+use Rattle.urb_client.proofs.Common.{Accepted, AllByRecursion, Bool, Content, Done, Err, IfOk}
+use Rattle.urb_client.proofs.Common.{IfSome, IsEntry, IsSaid, LONGEST_FRAME, Label, List, Listing}
+use Rattle.urb_client.proofs.Common.{MOST_ENTRIES, None, Ok, Option, Refused, Result, Said, Some}
+use Rattle.urb_client.proofs.Common.{[], ap, append_assoc, arith, big_bytes, byte_at, cond}
+use Rattle.urb_client.proofs.Common.{cond_some, entries_at, entry_at, entry_bytes, eqb-true, false}
+use Rattle.urb_client.proofs.Common.{flat_map, flat_map-cons, le-ltb, length, ltb-false, nat_lt}
+use Rattle.urb_client.proofs.Common.{nil_from_length, number_at, refl, response_body, same_Some}
+use Rattle.urb_client.proofs.Common.{subst, suc, sym, true, zero, ℕ, ◌++◌, ◌<◌, ◌==◌, ◌>>=◌, ◌^◌}
+use Rattle.urb_client.proofs.Common.{◌∙◌, ◌∷◌, ◌≡◌, ◌≤◌}
 use Rattle.std.specs.Option.{option_map}
-use Rattle.std.proofs.lemmas.Bool.{eqb-true, ltb-false, le-ltb}
-use Rattle.std.proofs.lemmas.List.{append-nil, nil_from_length}
-use Rattle.std.proofs.lemmas.List.Concat.{flat_map-cons}
-use Rattle.std.proofs.lemmas.Option.{cond_some, same_Some}
-use Rattle.byteorder.specs.Endian.{big_bytes}
-use Rattle.urb_names.specs.LabelsAndContents.{Label, Content}
-use Rattle.urb_client.specs.declared.format.TheConstants.{LONGEST_FRAME, MOST_ENTRIES}
+use Rattle.std.proofs.lemmas.List.{append-nil}
 use Rattle.urb_client.specs.declared.response.NodeState.{NodeState}
-use Rattle.urb_client.specs.declared.response.NodeState.TheVariants as state
-use Rattle.urb_client.specs.Listings.{IsEntry, entry_bytes}
-use Rattle.urb_client.specs.Responses.{Said, Accepted, Listing, Status, Done, Refused, IsSaid}
-use Rattle.urb_client.specs.Responses.{state_byte, response_body}
-use Rattle.urb_client.specs.internal.ParsedResponses.{◌>>=◌, byte_at, number_at, entry_at}
-use Rattle.urb_client.specs.internal.ParsedResponses.{entries_at, state_of, at_end, accepted_of}
-use Rattle.urb_client.specs.internal.ParsedResponses.{entries_of, status_of, refused_of, said_of}
+use Rattle.urb_client.specs.Responses.{Status, state_byte}
+use Rattle.urb_client.specs.internal.ParsedResponses.{accepted_of, at_end, entries_of, refused_of}
+use Rattle.urb_client.specs.internal.ParsedResponses.{said_of, state_of, status_of}
 use Rattle.urb_client.proofs.ResponseParts.{IsBytes, IsBytes-rest, Takes, Takes-then, bind_some}
-use Rattle.urb_client.proofs.ResponseParts.{by_test, four, number_takes, number_again, byte_takes}
-use Rattle.urb_client.proofs.ResponseParts.{entry_takes, entry_again}
+use Rattle.urb_client.proofs.ResponseParts.{by_test, byte_takes, entry_again, entry_takes, four}
+use Rattle.urb_client.proofs.ResponseParts.{number_again, number_takes}
+use Rattle.urb_client.specs.declared.response.NodeState.TheVariants as state
 
 entries_take : (n : ℕ) (bytes : List ℕ) (x : List (Label × Content) × List ℕ) → IsBytes bytes
     → entries_at n bytes ≡ Some x

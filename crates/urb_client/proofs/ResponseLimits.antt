@@ -1,13 +1,11 @@
 -- Every response fits in a frame.
-use Rattle.std.proofs.Common.{◌≡◌, ℕ, ◌+◌, ◌<◌, ◌≤◌, List, length, get_or, take, sym, subst, arith}
-use Rattle.std.specs.List.{All, AllByRecursion}
-use Rattle.std.proofs.lemmas.List.{take_all, take_more}
+use Rattle.urb_client.proofs.Common.{Accepted, All, AllByRecursion, Content, Done, IsEntry, IsSaid}
+use Rattle.urb_client.proofs.Common.{LONGEST_FRAME, Label, List, Listing, Refused, Said, arith}
+use Rattle.urb_client.proofs.Common.{get_or, length, response_body, subst, sym, take, take_more, ℕ}
+use Rattle.urb_client.proofs.Common.{◌+◌, ◌<◌, ◌≡◌, ◌≤◌}
+use Rattle.std.proofs.lemmas.List.{take_all}
 use Rattle.std.proofs.lemmas.List.Elements.{All-push, recursion_from_All}
-use Rattle.urb_names.specs.LabelsAndContents.{Label, Content}
-use Rattle.urb_client.specs.declared.format.TheConstants.{LONGEST_FRAME}
-use Rattle.urb_client.specs.Listings.{IsEntry}
-use Rattle.urb_client.specs.Responses.{Said, Accepted, Listing, Status, Done, Refused, IsSaid}
-use Rattle.urb_client.specs.Responses.{response_body}
+use Rattle.urb_client.specs.Responses.{Status}
 
 -- a response fits in a frame
 pub said_fits : (said : Said) → IsSaid said → length (response_body said) ≤ LONGEST_FRAME

@@ -1,22 +1,19 @@
 -- Parts of a frame: bytes are read as a part exactly if they are its encoding.
-use Rattle.std.proofs.Common.{◌≡◌, ℕ, suc, ◌+◌, ◌^◌, ◌<◌, ◌≤◌, true, false, cond, Bool, List, []}
-use Rattle.std.proofs.Common.{◌∷◌, ◌++◌, length, get_or, take, drop, Option, Some, None, refl, sym}
-use Rattle.std.proofs.Common.{ap, subst, ◌∙◌, append_assoc, arith, inl, inr}
-use Rattle.std.specs.Prelude.{nat_lt, nat_le, ◌&&◌}
-use Rattle.std.proofs.lemmas.Bool.{cases_lt, ltb-true, ltb-false, le-ltb, lt-ltb, leb-true, le-leb}
-use Rattle.std.proofs.lemmas.Bool.{and_parts, and_from}
-use Rattle.std.proofs.lemmas.List.{take_at, drop_at, take-append-drop, length-append, length-take}
-use Rattle.std.proofs.lemmas.List.{get_or-drop, get_or-take, get_or_past}
+use Rattle.urb_client.proofs.Common.{Bool, Content, IsEntry, Label, List, None, Option, Some, []}
+use Rattle.urb_client.proofs.Common.{ap, append_assoc, arith, big_bytes, big_number, byte_at}
+use Rattle.urb_client.proofs.Common.{cases_lt, cond, cond_some, drop, entry_at, entry_bytes, false}
+use Rattle.urb_client.proofs.Common.{get_or, inl, inr, le-ltb, length, ltb-false, nat_le, nat_lt}
+use Rattle.urb_client.proofs.Common.{number_at, refl, subst, suc, sym, take, take-append-drop, true}
+use Rattle.urb_client.proofs.Common.{ℕ, ◌&&◌, ◌++◌, ◌+◌, ◌<◌, ◌>>=◌, ◌^◌, ◌∙◌, ◌∷◌, ◌≡◌, ◌≤◌}
+use Rattle.std.proofs.lemmas.Bool.{and_from, and_parts, le-leb, leb-true, lt-ltb, ltb-true}
+use Rattle.std.proofs.lemmas.List.{drop_at, get_or-drop, get_or-take, get_or_past, length-append}
+use Rattle.std.proofs.lemmas.List.{length-take, take_at}
 use Rattle.std.proofs.lemmas.Nat.{be_bytes_2, be_bytes_4}
-use Rattle.std.proofs.lemmas.Option.{cond_some}
-use Rattle.byteorder.specs.Endian.{big_number, big_bytes}
-use Rattle.byteorder.specs.Numbers.{big_number-reads_back, big_from-lt}
-use Rattle.urb_names.specs.LabelsAndContents.{Label, Content, IsLabel, IsContent}
+use Rattle.byteorder.specs.Numbers.{big_from-lt, big_number-reads_back}
+use Rattle.urb_names.specs.LabelsAndContents.{IsContent, IsLabel}
 use Rattle.urb_names.specs.Nodes.{is_node}
 use Rattle.urb_names.specs.declared.limits.TheConstants.{MAX_NODES, MAX_PAYLOAD}
-use Rattle.urb_client.specs.Listings.{entry_bytes, IsEntry}
-use Rattle.urb_client.specs.internal.ParsedResponses.{◌>>=◌, byte_at, number_at, name_at}
-use Rattle.urb_client.specs.internal.ParsedResponses.{message_at, entry_at}
+use Rattle.urb_client.specs.internal.ParsedResponses.{message_at, name_at}
 
 -- a list of bytes
 abbrev pub IsBytes : List ℕ → Type 0

@@ -1,23 +1,21 @@
 -- A session so far: what was read, answered and written.
-use Rattle.std.proofs.Common.{◌≡◌, ℕ, ◌<◌, ◌≤◌, List, [], ◌∷◌, ◌++◌, Option, Some, None}
-use Rattle.std.proofs.Common.{Result, Ok, Err, length, refl, sym, ap, ◌∙◌, subst, append_assoc}
-use Rattle.std.proofs.Common.{append-nil, inl, inr, ◌+◌, length-append}
-use Rattle.std.specs.Prelude.{IfSome, IsSomeAnd}
-use Rattle.std.specs.Io.KnownBytes.{Consumes, Appends, IsAtEnd}
+use Rattle.urb_client.proofs.Common.{Asked, Asks, BadFrame, Begins, Closed, Consumes, Err, Event}
+use Rattle.urb_client.proofs.Common.{Fault, IfSome, IsAtEnd, IsBroken, IsSomeAnd, LONGEST_REQUEST}
+use Rattle.urb_client.proofs.Common.{List, MOST_FRAMES, None, Ok, Option, PartRead, Refused, Result}
+use Rattle.urb_client.proofs.Common.{Said, Says, Some, [], ap, append_assoc, frame, inl, inr}
+use Rattle.urb_client.proofs.Common.{length, refl, request_of, subst, sym, ℕ, ◌++◌, ◌+◌, ◌<◌, ◌∙◌}
+use Rattle.urb_client.proofs.Common.{◌∷◌, ◌≡◌, ◌≤◌}
+use Rattle.std.proofs.Common.{append-nil, length-append}
+use Rattle.std.specs.Io.KnownBytes.{Appends}
 use Rattle.std.proofs.KnownBytes.{Appends-nil, Appends-trans}
-use Rattle.urb_client.specs.declared.format.TheConstants.{LONGEST_REQUEST}
-use Rattle.urb_client.specs.declared.sessions.Ended.TheVariants.{Closed, BadFrame}
 use Rattle.urb_client.specs.declared.sessions.SessionFault.{SessionFault}
-use Rattle.urb_client.specs.declared.sessions.SessionFault.TheVariants as fault
-use Rattle.urb_client.specs.Requests.{Asked, request_of}
-use Rattle.urb_client.specs.Responses.{Said, Refused, encoding, frame}
-use Rattle.urb_client.specs.Sessions.{Event, Asks, Fault, Says, Begins, IsBroken, Replies}
-use Rattle.urb_client.specs.Sessions.{WholeSession, Served, Leaves, Meets, TakesFrame, BreaksOff}
+use Rattle.urb_client.specs.Responses.{encoding}
+use Rattle.urb_client.specs.Sessions.{BreaksOff, Leaves, Meets, Replies, Served, TakesFrame}
+use Rattle.urb_client.specs.Sessions.{WholeSession}
 use Rattle.urb_client.specs.internal.SessionPieces.{Answers, GoesUnanswered, GoesUnwritten}
-use Rattle.urb_client.specs.internal.SessionPieces.{PartRead}
 use Rattle.urb_client.specs.declared.full_read.ReadFailed.{ReadFailed}
-use Rattle.urb_client.specs.declared.sessions.TheConstants.{MOST_FRAMES}
 use Rattle.urb_names.specs.declared.refusal.NoMemory.{NoMemory}
+use Rattle.urb_client.specs.declared.sessions.SessionFault.TheVariants as fault
 
 -- a whole frame is taken, and this holds for it
 whole_taken : (P : Event → Type 0) (known left : Option (List ℕ)) (body : List ℕ) (event : Event)

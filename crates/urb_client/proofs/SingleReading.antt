@@ -1,17 +1,12 @@
 -- An input is read in only one way.
-use Rattle.std.proofs.Common.{◌≡◌, ℕ, ◌^◌, ◌<◌, ◌≤◌, List, [], ◌∷◌, ◌++◌, length, take, drop, Ok}
-use Rattle.std.proofs.Common.{Err, refl, sym, ap, subst, ◌∙◌, arith, inl, inr, length-append}
-use Rattle.std.proofs.Common.{take_at, drop_at}
-use Rattle.std.proofs.lemmas.Option.{same_Some}
-use Rattle.byteorder.specs.Endian.{big_bytes}
-use Rattle.urb_client.specs.declared.format.TheConstants.{LONGEST_REQUEST}
+use Rattle.urb_client.proofs.Common.{Asks, BadFrame, Begins, Closed, Err, Event, Fault, IsBroken}
+use Rattle.urb_client.proofs.Common.{LONGEST_REQUEST, List, Ok, Says, [], ap, arith, big_bytes}
+use Rattle.urb_client.proofs.Common.{drop, frame, inl, inr, length, number_at, refl, same_Some}
+use Rattle.urb_client.proofs.Common.{subst, sym, take, ℕ, ◌++◌, ◌<◌, ◌^◌, ◌∙◌, ◌∷◌, ◌≡◌, ◌≤◌}
+use Rattle.std.proofs.Common.{drop_at, length-append, take_at}
 use Rattle.urb_client.specs.declared.sessions.Ended.{Ended}
-use Rattle.urb_client.specs.declared.sessions.Ended.TheVariants.{Closed, BadFrame}
-use Rattle.urb_client.specs.Responses.{frame}
-use Rattle.urb_client.specs.internal.ParsedResponses.{number_at}
-use Rattle.urb_client.specs.Sessions.{Event, Asks, Fault, Says, Begins, HasBadLength, IsCut}
-use Rattle.urb_client.specs.Sessions.{IsBroken, Ends, IsReadOnce}
-use Rattle.urb_client.proofs.ResponseParts.{two, number_again}
+use Rattle.urb_client.specs.Sessions.{Ends, HasBadLength, IsCut, IsReadOnce}
+use Rattle.urb_client.proofs.ResponseParts.{number_again, two}
 
 -- bytes have one length in front
 pub one_length : (m n : ℕ) (x y bytes : List ℕ) → m < 2 ^ 16 → n < 2 ^ 16

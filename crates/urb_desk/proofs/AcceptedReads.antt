@@ -1,18 +1,14 @@
 -- What a desk said to be accepted is what desks read.
-use Rattle.std.proofs.Common.{Contains, List, inl, subst, sym, ℕ, ⊎_elim, ◌-◌, ◌≡◌}
-use Rattle.urb_group.specs.GroupViews.{GroupView}
-use Rattle.urb_world.specs.Step.{Event}
-use Rattle.urb_names.specs.LabelsAndContents.{Content}
+use Rattle.urb_desk.proofs.Common.{Contains, Content, DeskView, Event, GroupView, HasAccepted}
+use Rattle.urb_desk.proofs.Common.{IsPrefix, List, inl, name, prefix_trans, subst, sym, ℕ, ⊎_elim}
+use Rattle.urb_desk.proofs.Common.{◌-◌, ◌≡◌}
 use Rattle.urb_names.specs.ListPrefixes.{OneBegins}
-use Rattle.urb_names.specs.Names.{name}
 use Rattle.urb_show.proofs.AcceptedEntries.{accepted_everywhere}
 use Rattle.urb_show.proofs.AgreeingLists.{either_prefix}
-use Rattle.urb_show.proofs.Prefixes.{prefix_trans}
 use Rattle.urb_show.specs.DeliveredLists.{AreDeliveredBy}
 use Rattle.urb_show.specs.Lists.{list_at}
 use Rattle.urb_show.specs.declared.entry.Entry.{Entry}
-use Rattle.urb_desk.specs.Desks.{DeskView, HasAccepted, Looks}
-use mathlib.Core.List.{IsPrefix}
+use Rattle.urb_desk.specs.Desks.{Looks}
 
 -- of a prefix of the one history and another history, one is a prefix of the other
 one_within : (past history other : List Event) → IsPrefix past history → OneBegins history other

@@ -1,76 +1,66 @@
 -- What a response says about a request's job, judged by the job's result, is true.
-use Rattle.std.proofs.Common.{Bool, Err, List, None, Ok, Option, Result, Some, Vec, [], ap, false}
-use Rattle.std.proofs.Common.{inl, inr, length, refl, subst, sym, true, ℕ, ◌++◌, ◌∙◌, ◌∷◌, ◌≡◌}
-use Rattle.std.proofs.Common.{⊎_elim, ◌⊎◌}
-use Rattle.std.proofs.lemmas.Bool.{false≢true}
+use Rattle.urb_desk.proofs.Common.{Asked, Bool, Carried, Content, DeskView, Err, Event, GroupView}
+use Rattle.urb_desk.proofs.Common.{HasAccepted, HasStored, IfOk, IsJobOf, IsLedTo, IsPrefix}
+use Rattle.urb_desk.proofs.Common.{IsSound, Label, List, LoansView, Node, None, Ok, Option}
+use Rattle.urb_desk.proofs.Common.{Result, Said, Sees, Shows, Some, Status, TellsStatus, Up, Vec}
+use Rattle.urb_desk.proofs.Common.{WentDown, Works, World, [], after, ap, false, false≢true, inl}
+use Rattle.urb_desk.proofs.Common.{inr, length, name, pend, prefix_trans, refl, step, subst}
+use Rattle.urb_desk.proofs.Common.{sym, told_of, true, view_of, ℕ, ⊎_elim, ◌++◌, ◌∙◌, ◌∷◌, ◌≡◌}
 use Rattle.std.specs.declared.alloc.Global.{Global}
-use Rattle.urb_client.specs.Requests.{Ask, Asked, Read, Submit, Wait}
+use Rattle.urb_client.specs.Requests.{Ask, Read, Submit, Wait}
 use Rattle.urb_client.specs.declared.request.Control.{Control}
-use Rattle.urb_client.specs.declared.request.Control.TheVariants as control
-use Rattle.urb_client.specs.Responses.{Refused as IsRefused, Said}
+use Rattle.urb_client.specs.Responses.{Refused as IsRefused}
 use Rattle.urb_world.proofs.safety.AcceptedSubmits.{accepted-stored, committed-stored}
 use Rattle.urb_group.proofs.shown.AgreeingWorlds.{sound-kept}
-use Rattle.urb_world.specs.Acceptance.{HasStored, StoresOwn}
-use Rattle.urb_group.specs.GroupCalls.{ComesUp, Commits, GoesDown, Happens, HoldsDraft, Steps, Takes}
-use Rattle.urb_group.specs.GroupViews.{GroupView, IsSound, Shows, view_of}
-use Rattle.urb_world.specs.Step.{Commit, Crash as CrashOf, Event, Restart as RestartOf}
-use Rattle.urb_world.specs.Step.{Submit as SubmitOf, step}
-use Rattle.urb_world.specs.World.{World, stored}
+use Rattle.urb_world.specs.Acceptance.{StoresOwn}
+use Rattle.urb_group.specs.GroupCalls.{ComesUp, Commits, GoesDown, Happens, HoldsDraft, Steps}
+use Rattle.urb_group.specs.GroupCalls.{Takes}
+use Rattle.urb_world.specs.Step.{Commit, Crash as CrashOf, Restart as RestartOf, Submit as SubmitOf}
 use Rattle.urb_group.specs.declared.reply.Reply.{Reply}
-use Rattle.urb_group.specs.declared.reply.Reply.TheVariants as reply
 use Rattle.urb_group.specs.declared.state.State.{State}
-use Rattle.urb_group.specs.declared.state.State.TheVariants as state
 use Rattle.urb_group.specs.declared.taken.Taken.{Taken}
-use Rattle.urb_group.specs.declared.taken.Taken.TheVariants as taken
 use Rattle.urb_names.proofs.OrderedPairs.{has_pair-first}
-use Rattle.urb_names.specs.CarriedPackets.{Carried}
-use Rattle.urb_names.specs.Names.{name}
-use Rattle.urb_names.specs.LabelsAndContents.{Content, Label}
 use Rattle.urb_names.specs.Pairs.{has_pair}
 use Rattle.urb_names.specs.RefusalReports.{detail_of, number_of}
 use Rattle.urb_names.specs.declared.refusal.Refusal.{Refusal}
-use Rattle.urb_names.specs.declared.refusal.Refusal.TheVariants as refusal
-use Rattle.urb_node.specs.Part as part
-use Rattle.urb_node.specs.Part.{Node}
-use Rattle.urb_node.specs.Replies.{Done, Drafted, Refused, Reply as Told, Same, Stored, Up}
-use Rattle.urb_node.specs.Replies.{WentDown}
+use Rattle.urb_node.specs.Replies.{Done, Drafted, Reply as Told, Same, Stored}
 use Rattle.urb_node.specs.declared.answer.Answer.{Answer}
-use Rattle.urb_node.specs.declared.answer.Answer.TheVariants as answer
 use Rattle.urb_node.specs.declared.cause.Cause.{Cause}
 use Rattle.urb_show.proofs.PastEvents.{after_one_more}
 use Rattle.urb_show.proofs.PastPrefixes.{prefix_same}
-use Rattle.urb_show.proofs.Prefixes.{prefix_length, prefix_trans}
+use Rattle.urb_show.proofs.Prefixes.{prefix_length}
 use Rattle.urb_show.proofs.ToldReplies.{reply_stands}
 use Rattle.urb_show.specs.Houses.{HouseView}
-use Rattle.urb_world.specs.RecoveryPlans.{after}
-use Rattle.urb_show.specs.Pasts.{IsLedTo, IsToldAt}
-use Rattle.urb_show.specs.Statuses.{TellsStatus}
-use Rattle.urb_show.specs.declared.status.Status.{Status}
+use Rattle.urb_show.specs.Pasts.{IsToldAt}
 use Rattle.urb_stable.specs.Doubts.{Doubted}
 use Rattle.urb_stable.specs.Entries.{Entry, name_of}
 use Rattle.urb_stable.specs.PlacedRecords.{Placed}
-use Rattle.urb_stable.specs.Records.{pend}
 use Rattle.urb_stable.specs.StableStorage.{refusal_of}
 use Rattle.urb_stable.specs.declared.record.Record.TheVariants.{Cert, Pend, PendCert}
 use Rattle.urb_stable.specs.declared.stable.StoreFault.{StoreFault}
 use Rattle.urb_turn.proofs.GrowingPasts.{begins_grow, ends_grow, settled_past}
 use Rattle.urb_turn.proofs.TurnLoans.{one_loan}
-use Rattle.urb_desk.specs.Desks.{DeskView, HasAccepted, IsJobOf, Sees, Tells, Works, control_job}
-use Rattle.urb_desk.specs.Desks.{told_of}
+use Rattle.urb_desk.specs.Desks.{AnswersAt, Tells, control_job}
+use Rattle.urb_desk.specs.internal.Desks.{IsWork}
 use Rattle.urb_turn.specs.Jobs.{node_of}
-use Rattle.urb_turn.specs.Loans.{IsLoan, LoansView}
+use Rattle.urb_turn.specs.Loans.{IsLoan}
 use Rattle.urb_turn.specs.Settlings.{Published}
 use Rattle.urb_turn.specs.Stages.{commit_reply, crash_stage, fail_reply, image_stage, kept_stage}
 use Rattle.urb_turn.specs.Stages.{restart_reply, restart_stage, status_reply, taken_stage}
-use Rattle.urb_turn.specs.Turns.{CameOf, Counts, Ends, Goes, HasBegun, IsKeptOf, IsOutcome}
-use Rattle.urb_turn.specs.Turns.{has_released}
+use Rattle.urb_turn.specs.Turns.{CameOf, Counts, Ends, Goes, HasBegun, IsKeptOf, has_released}
 use Rattle.urb_turn.specs.declared.job.Job.{Job}
-use Rattle.urb_turn.specs.declared.job.Job.TheVariants as job
 use Rattle.urb_turn.specs.declared.turn_stages.Stage.{Stage}
-use Rattle.urb_turn.specs.declared.turn_stages.Stage.TheVariants as stage
 use Rattle.urb_world.proofs.steps.StepCases.{step-here}
 use Rattle.urb_node.proofs.SubmitCases.{submits-cases}
-use mathlib.Core.List.{IsPrefix}
+use Rattle.urb_client.specs.declared.request.Control.TheVariants as control
+use Rattle.urb_group.specs.declared.reply.Reply.TheVariants as reply
+use Rattle.urb_group.specs.declared.state.State.TheVariants as state
+use Rattle.urb_group.specs.declared.taken.Taken.TheVariants as taken
+use Rattle.urb_names.specs.declared.refusal.Refusal.TheVariants as refusal
+use Rattle.urb_node.specs.Part as part
+use Rattle.urb_node.specs.declared.answer.Answer.TheVariants as answer
+use Rattle.urb_turn.specs.declared.job.Job.TheVariants as job
+use Rattle.urb_turn.specs.declared.turn_stages.Stage.TheVariants as stage
 
 -- ---- the draft of a submit
 
@@ -556,49 +546,61 @@ came_tells opened seen (Ask control) p done said status settling loans is came b
     (subst (λ (j : Job). CameOf opened j said status settling (Some loans)) is came) behind
 came_tells opened seen asked p done said status settling loans is came behind = absurd is
 
-outcome_tells : (opened : GroupView) (seen later : List Event) (ran : Bool) (asked : Asked) (p : ℕ)
+outcome_tells : (opened : GroupView) (seen history : List Event) (asked : Asked) (p : ℕ)
     (done : Job) (said : Reply Global) (status : Option Status) (settling : Published)
     (loans : Option LoansView)
-    → IsJobOf p asked done → IsOutcome opened ran done said status settling loans
-    → Sees seen ran loans later → Tells opened seen later p asked (told_of said status)
-outcome_tells opened seen later true asked p done said status settling (Some loans) is came sees =
+    → IsJobOf p asked done → CameOf opened done said status settling loans
+    → Sees seen loans history → Tells opened seen history p asked (told_of said status)
+outcome_tells opened seen history asked p done said status settling (Some loans) is came sees =
     subst (λ (l : List Event). Tells opened seen l p asked (told_of said status)) (sym sees.1)
     (came_tells opened seen asked p done said status settling loans is came sees.0)
-outcome_tells opened seen later true asked p done said status settling None is came sees =
-    absurd sees
-outcome_tells opened seen later false asked p done said status settling loans is out sees =
-    subst (λ (s : Option Status). Tells opened seen later p asked (told_of said s)) (sym out.1)
-    (subst (λ (r : Reply Global). Tells opened seen later p asked (told_of r None)) (sym out.0)
-    (refused_tells opened seen later p asked (number_of refusal.BadNode)
-    (detail_of refusal.BadNode)))
+outcome_tells opened seen history asked p done said status settling None is came sees = absurd sees
 
 -- What a desk responds by the result of its worker is true of the desk's node.
 pub works_tells : (opened : GroupView) (before after : DeskView) (asked : Asked) (said : Said)
     → Works opened before asked said after
     → Tells opened before.past after.past before.node asked said
 works_tells opened before after asked said (inl w) =
-    subst (Tells opened before.past after.past before.node asked) (sym w.9)
-    (outcome_tells opened before.past after.past w.1 asked before.node w.0 w.2 w.3 w.4 w.5 w.6 w.7
-    w.10)
+    subst (Tells opened before.past after.past before.node asked) (sym w.8)
+    (outcome_tells opened before.past after.past asked before.node w.0 w.1 w.2 w.3 w.4 w.5 w.6 w.9)
 works_tells opened before after asked said (inr w) =
     subst (Tells opened before.past after.past before.node asked) (sym w.2)
     (refused_tells opened before.past after.past before.node asked 3 0)
 
-outcome_grows : (opened : GroupView) (seen later : List Event) (ran : Bool) (done : Job)
+outcome_grows : (opened : GroupView) (seen history : List Event) (done : Job)
     (said : Reply Global) (status : Option Status) (settling : Published)
-    (loans : Option LoansView) → IsOutcome opened ran done said status settling loans
-    → Sees seen ran loans later → IsPrefix seen later
-outcome_grows opened seen later true done said status settling (Some loans) came sees =
+    (loans : Option LoansView) → CameOf opened done said status settling loans
+    → Sees seen loans history → IsPrefix seen history
+outcome_grows opened seen history done said status settling (Some loans) came sees =
     subst (λ (l : List Event). IsPrefix seen l) (sym sees.1)
     (seen_grows opened seen done said status settling loans came sees.0)
-outcome_grows opened seen later true done said status settling None came sees = absurd sees
-outcome_grows opened seen later false done said status settling loans out sees =
-    prefix_same seen later (sym sees)
+outcome_grows opened seen history done said status settling None came sees = absurd sees
 
 -- what a desk has seen only grows
 pub works_grows : (opened : GroupView) (before after : DeskView) (asked : Asked) (said : Said)
     → Works opened before asked said after → IsPrefix before.past after.past
 works_grows opened before after asked said (inl w) =
-    outcome_grows opened before.past after.past w.1 w.0 w.2 w.3 w.4 w.5 w.7 w.10
+    outcome_grows opened before.past after.past w.0 w.1 w.2 w.3 w.4 w.6 w.9
 works_grows opened before after asked said (inr w) =
     prefix_same before.past after.past (sym w.1)
+
+-- So a response by the worker's result is one that the desk may give, if memory was not refused.
+pub answers_by_work : {X E : Type 0} (opened : GroupView) (before after : DeskView) (asked : Asked)
+    (said : X → Said) (result : Result X E) → IsWork asked
+    → IfOk result (λ r. (after.node ≡ before.node) × Works opened before asked (said r) after)
+    → IfOk result (λ r. AnswersAt opened before asked (said r) after)
+answers_by_work opened before after (Submit client number payload) said (Ok r) work works = (
+  works.0,
+  works.1,
+  works_tells opened before after (Submit client number payload) (said r) works.1,
+  works_grows opened before after (Submit client number payload) (said r) works.1,
+)
+answers_by_work opened before after (Ask control) said (Ok r) work works = (
+  works.0,
+  works.1,
+  works_tells opened before after (Ask control) (said r) works.1,
+  works_grows opened before after (Ask control) (said r) works.1,
+)
+answers_by_work opened before after (Read place max) said (Ok r) work works = absurd work
+answers_by_work opened before after (Wait place max millis) said (Ok r) work works = absurd work
+answers_by_work opened before after asked said (Err refused) work works = tt

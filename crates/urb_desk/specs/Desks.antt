@@ -1,5 +1,5 @@
 -- What the desk of a running node answers.
-use Rattle.std.specs.Prelude.{Bool, List, if◌then◌else◌, None, Option, Some, drop, false}
+use Rattle.std.specs.Prelude.{Bool, List, if◌then◌else◌, None, Option, Some, drop}
 use Rattle.std.specs.Prelude.{length, map, take, true, ℕ, ◌-◌, ◌≡◌, ◌≤◌, ◌⊎◌}
 use Rattle.std.specs.declared.alloc.Global.{Global}
 use Rattle.urb_names.specs.Names.{name}
@@ -37,11 +37,14 @@ use Rattle.urb_turn.specs.declared.job.Job.{Job}
 use Rattle.urb_turn.specs.declared.job.Job.TheVariants as job
 use mathlib.Core.List.{IsPrefix}
 
--- a desk: its node, what its reader knows, and the events that it has seen, all up to some moment
+-- A desk: its node, what its reader knows, and the events that it has seen, all up to some moment.
+-- It has lost its worker or the House if it has a witness of that: a channel without its other end, a
+-- turn of another request, or a read that said so.
 pub record DeskView : Type 0 where
   pub node : ℕ
   pub known : ReaderView
   pub past : List Event
+  pub has_lost : Bool
 
 -- The refusal Down, without a detail. It is also the answer if the worker or the House is gone.
 abbrev pub gone : Said
@@ -89,12 +92,14 @@ pub record Looks (opened : GroupView) (before after : DeskView) : Type 0 where
   pub behind : IsPrefix before.past after.past
 
 -- A read was answered. The lists of one moment were taken. The response has as many of the desk's
--- node's entries in them as a frame has room for. Or the House is gone, and nothing changed.
+-- node's entries in them as a frame has room for. Or the House is gone: the desk has a witness of
+-- that, and nothing else changed.
 abbrev pub Reads : GroupView → DeskView → ℕ → ℕ → Said → DeskView → Type 0
 Reads opened before place max said after =
     (Looks opened before after
     × SaysPage (part_of (list_at after.known.seen (before.node - 1)) place max) said)
-    ⊎ ((after.known ≡ before.known) × (after.past ≡ before.past) × (said ≡ gone))
+    ⊎ ((after.known ≡ before.known) × (after.past ≡ before.past) × (said ≡ gone)
+    × (after.has_lost ≡ true))
 
 -- what a turn published, if anything, was learnt
 abbrev pub LearnsTold : Option ToldView → ReaderView → ReaderView → Type 0
@@ -115,23 +120,23 @@ IsJobOf p (Ask control) done = done ≡ control_job p control
 IsJobOf p asked other = ⊥
 
 -- The turn got the House behind all events that the desk had seen. The desk has now seen all events
--- until the turn's end. A job that did not run shows no event.
-abbrev pub Sees : List Event → Bool → Option LoansView → List Event → Type 0
-Sees before true (Some loans) after = IsPrefix before loans.first.lent × (after ≡ loans.last.back)
-Sees before true None after = ⊥
-Sees before false loans after = after ≡ before
+-- until the turn's end.
+abbrev pub Sees : List Event → Option LoansView → List Event → Type 0
+Sees before (Some loans) after = IsPrefix before loans.first.lent × (after ≡ loans.last.back)
+Sees before None after = ⊥
 
 -- The worker returned a turn with the request's job, and this is the result. It is a turn on the
 -- House that opened with this group. The reader learnt what the turn published before its reply was
--- given to the client. Or the worker returned no such turn.
+-- given to the client. Or the desk has a witness that the worker returned no such turn.
 abbrev pub Works : GroupView → DeskView → Asked → Said → DeskView → Type 0
 Works opened before asked said after =
-    ((done : Job) × (ran : Bool) × (answered : Reply Global) × (status : Option Status)
-    × (settling : Published) × (loans : Option LoansView)
-    × IsJobOf before.node asked done × IsOutcome opened ran done answered status settling loans
+    ((done : Job) × (answered : Reply Global) × (status : Option Status) × (settling : Published)
+    × (loans : Option LoansView)
+    × IsJobOf before.node asked done × IsOutcome opened true done answered status settling loans
     × LearnsTold (told_in settling) before.known after.known × (said ≡ told_of answered status)
-    × Sees before.past ran loans after.past)
-    ⊎ ((after.known ≡ before.known) × (after.past ≡ before.past) × (said ≡ gone))
+    × Sees before.past loans after.past)
+    ⊎ ((after.known ≡ before.known) × (after.past ≡ before.past) × (said ≡ gone)
+    × (after.has_lost ≡ true))
 
 -- ---- what a response says is true
 

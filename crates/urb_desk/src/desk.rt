@@ -1,32 +1,32 @@
 //! The desk of a running node: it passes requests to the node's worker, and does reads itself.
 
-ghost use Rattle.std.specs.Prelude.{◌≡◌, ◌⊎◌, ◌≤◌, ◌↔◌, ◌-◌, [], IfOk, IsTrue, MatchOption, OnErr};
-ghost use Rattle.std.specs.Prelude.{MatchResult, length};
+ghost use Rattle.std.specs.Prelude.{◌≡◌, ◌⊎◌, ◌≤◌, ◌-◌, [], Err, IfOk, IsOk, IsTrue, MatchOption};
+ghost use Rattle.std.specs.Prelude.{MatchResult, OnErr, false, length};
 ghost use Rattle.urb_client.specs.declared.format.TheConstants.{MOST_ENTRIES};
 ghost use Rattle.urb_client.specs.Requests.{asked_by};
 ghost use Rattle.urb_client.specs.Responses.{said_by};
 ghost use Rattle.urb_show.specs.Lists.{list_at};
 ghost use Rattle.urb_show.specs.Pages.{IsPageOf};
-ghost use Rattle.urb_desk.specs.Desks.{IsJobOf, LearnsTold, Looks, Reads, Sees, Tells, Works};
-ghost use Rattle.urb_desk.specs.Desks.{control_job, gone, told_of};
+ghost use Rattle.urb_desk.specs.Desks.{AnswersAt, LearnsTold, Looks, Reads, Sees, Works, gone};
+ghost use Rattle.urb_desk.specs.Desks.{told_of};
 ghost use mathlib.Core.List.{IsPrefix};
-ghost use Rattle.urb_desk.specs.internal.Desks.{IsWork};
+ghost use Rattle.urb_desk.specs.internal.Desks.{IsTurnFor, IsWork};
 ghost use Rattle.urb_turn.specs.Loans.{Follows};
 ghost use Rattle.urb_turn.specs.Settlings.{told_in};
 
 use crate::NodeService;
 use crate::desk_queue::DeskQueue;
+use crate::lost::{HouseGone, Lost, WorkerGone, after_read, turn_for};
 use crate::node_service::DeskService;
 use crate::responses::{down_response, response_to_read, response_to_turn};
-use crate::worker_gone::WorkerGone;
 use std::alloc::Global;
 use std::marker::Model;
 use std::sync::Wait;
 use std::time::{Clock, Duration, Instant};
-use urb_client::{Control, Desk, Request, Response};
+use urb_client::{Desk, Request, Response};
 use urb_names::{NoMemory, NodeId};
-use urb_show::{HouseName, Moment, Page, ReadFault, ReadPosition, Told};
-use urb_turn::{Finished, Job, copy_moment};
+use urb_show::{HouseName, Moment, Page, ReadPosition, Told};
+use urb_turn::{Finished, copy_moment};
 
 /// Answers the requests of a client at one node. A desk keeps the position of what its session has
 /// seen and learnt, and borrows a reader for each read. It learns what the worker published. So a
@@ -43,10 +43,12 @@ pub struct NodeDesk<'a, K: HouseName, R: Wait + Clock> {
     position: ReadPosition<K>,
     // The latest moment of the House that it has seen.
     seen: Option<Moment<K>>,
+    // Why it has said that its worker or the House is gone.
+    lost: Option<Lost>,
 }
 
 impl<'a, K: HouseName, R: Wait + Clock> Model for NodeDesk<'a, K, R> {
-    ghost use Rattle.std.specs.Prelude.{◌≡◌, ◌≤◌, length};
+    ghost use Rattle.std.specs.Prelude.{◌≡◌, ◌≤◌, is_some, length};
     ghost use Rattle.urb_desk.specs.Desks.{DeskView};
     ghost use Rattle.urb_turn.specs.Loans.{events_until};
 
@@ -56,6 +58,7 @@ impl<'a, K: HouseName, R: Wait + Clock> Model for NodeDesk<'a, K, R> {
       node = d.node;
       known = d.position;
       past = events_until d.seen;
+      has_lost = is_some d.lost;
     } };
 
     ghost invariant = { λ d. (d.node ≤ length K.base) × (d.queue ≡ d.node) };
@@ -72,7 +75,7 @@ impl<'a, K: HouseName, R: Wait + Clock> NodeDesk<'a, K, R> {
         position: ReadPosition<K>,
     ) -> NodeDesk<'a, K, R>
         requires { node ≤ length K.base }
-        ensures { result ≡ record { node = node; known = position; past = [] } }
+        ensures { result ≡ record { node = node; known = position; past = []; has_lost = false } }
     {
         let NodeService {
             queue,
@@ -96,6 +99,7 @@ impl<'a, K: HouseName, R: Wait + Clock> NodeDesk<'a, K, R> {
             },
             position,
             seen,
+            lost: None,
         }
     }
 
@@ -112,6 +116,7 @@ impl<'a, K: HouseName, R: Wait + Clock> NodeDesk<'a, K, R> {
             service: self.service.copy(),
             position: self.position.copy(),
             seen: copy_moment(&self.seen),
+            lost: self.lost,
         }
     }
 
@@ -130,71 +135,96 @@ impl<'a, K: HouseName, R: Wait + Clock> NodeDesk<'a, K, R> {
         }
     }
 
+    // Says `Down`, and keeps the witness of what is lost.
+    fn say_down(&mut self, lost: Lost) -> Response
+        ensures same { (self.new.node ≡ self.old.node) × (self.new.known ≡ self.old.known)
+            × (self.new.past ≡ self.old.past) }
+        ensures lost { IsTrue self.new.has_lost }
+        ensures said { said_by result ≡ gone }
+    {
+        let response = down_response(&lost);
+        self.lost = Some(lost);
+        response
+    }
+
     // The response for a turn, after the desk has learnt what the turn published, and its end.
     #[tactic(auto, using(crate::proofs::DeskEvents::sees))]
-    fn respond_to_turn(&mut self, finished: Finished<K>) -> Response
-        requires { Follows self.old.past finished.ran finished.loans }
+    fn respond_to_turn(&mut self, turn: Finished<K>) -> Response
+        requires ran { IsTrue turn.ran }
+        requires follows { Follows self.old.past turn.ran turn.loans }
         ensures node { self.new.node ≡ self.old.node }
-        ensures learnt { LearnsTold (told_in finished.settling) self.old.known self.new.known }
-        ensures said { said_by result ≡ told_of finished.reply finished.status }
-        ensures sees { Sees self.old.past finished.ran finished.loans self.new.past }
+        ensures learnt { LearnsTold (told_in turn.settling) self.old.known self.new.known }
+        ensures said { said_by result ≡ told_of turn.reply turn.status }
+        ensures sees { Sees self.old.past turn.loans self.new.past }
     {
-        let end = finished.end();
-        let (reply, status, lists) = finished.into_parts();
+        let end = turn.end();
+        let (reply, status, lists) = turn.into_parts();
         self.learn(lists, end);
         response_to_turn(&reply, status)
     }
 
-    // The response for a turn, after the reader has learnt what it published. It is the refusal
-    // `Down` only if the turn is of another job, or doesn't follow what the desk has seen.
+    // The response for what the worker returned. If it is a turn of the request, the response is the
+    // turn's, after the reader has learnt what it published. Otherwise the response is `Down`.
+    #[tactic(auto, using(crate::proofs::DeskEvents::works_by_turn))]
     fn respond_if_asked(&mut self, request: &Request, finished: Finished<K>) -> Response
         ensures node { self.new.node ≡ self.old.node }
         ensures works { Works K.origin self.old (asked_by request.now) (said_by result) self.new }
-        ensures told { IsJobOf self.old.node (asked_by request.now) finished.job
-            → Follows self.old.past finished.ran finished.loans
+        ensures told { IsTurnFor self.old.node self.old.past (asked_by request.now) finished
             → said_by result ≡ told_of finished.reply finished.status }
     {
-        if !is_turn_of(self.node, request, &finished) {
-            return down_response();
+        match turn_for(self.node, request, &self.seen, finished) {
+            Ok(turn) => self.respond_to_turn(turn),
+            Err(stray) => self.say_down(Lost::Turn(stray)),
         }
-        if !finished.is_after(&self.seen) {
-            return down_response();
-        }
-        self.respond_to_turn(finished)
     }
 
-    // Turns the worker's result into the client's response, after the reader has learnt what was
-    // published. If the worker is gone, or the result is of another job or an earlier turn, the
-    // response is the refusal `Down`.
+    // Turns the worker's result into the client's response. If the worker is gone, it is `Down`.
     fn respond(&mut self, request: &Request, came: Result<Finished<K>, WorkerGone>) -> Response
         ensures node { self.new.node ≡ self.old.node }
         ensures works { Works K.origin self.old (asked_by request.now) (said_by result) self.new }
-        // It is the refusal `Down` only if the worker is gone, or a turn of another job came, or one
-        // that doesn't follow what the desk has seen.
+        // A turn of the request is answered by what it tells.
         ensures told { MatchResult came
-            (λ finished. IsJobOf self.old.node (asked_by request.now) finished.job
-            → Follows self.old.past finished.ran finished.loans
+            (λ finished. IsTurnFor self.old.node self.old.past (asked_by request.now) finished
             → said_by result ≡ told_of finished.reply finished.status)
             (λ witness. said_by result ≡ gone) }
     {
         match came {
             Ok(finished) => self.respond_if_asked(request, finished),
-            Err(_) => down_response(),
+            Err(witness) => self.say_down(Lost::Worker(witness)),
+        }
+    }
+
+    // The response to what came of a request at the worker, or refused memory.
+    fn respond_or_refuse(
+        &mut self,
+        request: &Request,
+        came: Result<Result<Finished<K>, WorkerGone>, NoMemory>,
+    ) -> Result<Response, NoMemory>
+        // Memory is refused exactly if it was. Then the desk is as it was.
+        ensures refused { MatchResult came (λ asked. IsOk result)
+            (λ refused. (result ≡ Err refused) × (self.new ≡ self.old)) }
+        ensures works { IfOk result (λ response. (self.new.node ≡ self.old.node)
+            × Works K.origin self.old (asked_by request.now) (said_by response) self.new) }
+        ensures told { IfOk came (λ asked. IfOk result (λ response. MatchResult asked
+            (λ finished. IsTurnFor self.old.node self.old.past (asked_by request.now) finished
+            → said_by response ≡ told_of finished.reply finished.status)
+            (λ witness. said_by response ≡ gone))) }
+    {
+        match came {
+            Ok(asked) => Ok(self.respond(request, asked)),
+            Err(refused) => Err(refused),
         }
     }
 
     // Has the worker do what a request asks, and learns what the worker published.
     fn work(&mut self, request: &Request) -> Result<Response, NoMemory>
         requires { IsWork (asked_by request.now) }
-        ensures answered { IfOk result (λ response. (self.new.node ≡ self.old.node)
-            × Works K.origin self.old (asked_by request.now) (said_by response) self.new
-            × Tells K.origin self.old.past self.new.past self.old.node (asked_by request.now)
-            (said_by response)
-            × IsPrefix self.old.past self.new.past) }
+        ensures answered { IfOk result (λ response.
+            AnswersAt K.origin self.old (asked_by request.now) (said_by response) self.new) }
         ensures refused { OnErr result (self.new ≡ self.old) }
     {
-        let came = self.queue.ask(self.rt, self.alloc, request)?;
-        Ok(self.respond(request, came))
+        let came = self.queue.ask(self.rt, self.alloc, request);
+        self.respond_or_refuse(request, came)
     }
 
     // The session's position, which also knows the latest moment that the desk has seen.
@@ -211,20 +241,25 @@ impl<'a, K: HouseName, R: Wait + Clock> NodeDesk<'a, K, R> {
     }
 
     // Takes the published lists, at a place of the history behind all that the desk has seen. It
-    // returns the node's page.
-    fn look(&mut self, place: u32, max: u8) -> Result<Page, ReadFault>
+    // returns the node's page, or the witness that the House is gone.
+    fn look(&mut self, place: u32, max: u8) -> Result<Result<Page, HouseGone>, NoMemory>
         requires { 1 ≤ place }
-        ensures page { IfOk result (λ page. (self.new.node ≡ self.old.node)
-            × Looks K.origin self.old self.new
-            × IsPageOf (list_at self.new.known.seen (self.old.node - 1)) place max page) }
+        ensures page { IfOk result (λ looked. IfOk looked (λ page.
+            (self.new.node ≡ self.old.node) × Looks K.origin self.old self.new
+            × IsPageOf (list_at self.new.known.seen (self.old.node - 1)) place max page)) }
+        ensures gone { IfOk result (λ looked. OnErr looked (self.new ≡ self.old)) }
         ensures refused { OnErr result (self.new ≡ self.old) }
     {
         let (rt, alloc, node, readers) = (self.rt, self.alloc, self.node, self.service.readers);
         let mut position = self.position_now();
-        let page = readers.read(rt, alloc, &mut position, node, place, max)?;
+        let came = readers.read(rt, alloc, &mut position, node, place, max);
+        let page = match after_read(came)? {
+            Ok(page) => page,
+            Err(witness) => return Ok(Err(witness)),
+        };
         self.seen = Some(position.moment().copy());
         self.position = position;
-        Ok(page)
+        Ok(Ok(page))
     }
 
     // Reads the node's published list.
@@ -235,10 +270,9 @@ impl<'a, K: HouseName, R: Wait + Clock> NodeDesk<'a, K, R> {
         ensures refused { OnErr result ((self.new ≡ self.old)
             ⊎ ((self.new.node ≡ self.old.node) × Looks K.origin self.old self.new)) }
     {
-        match self.look(place, max) {
+        match self.look(place, max)? {
             Ok(page) => response_to_read(self.alloc, page.entries),
-            Err(ReadFault::NoMemory(refused)) => Err(refused),
-            Err(ReadFault::Gone) => Ok(down_response()),
+            Err(witness) => Ok(self.say_down(Lost::House(witness))),
         }
     }
 
@@ -309,51 +343,5 @@ impl<'a, K: HouseName, R: Wait + Clock> Desk for NodeDesk<'a, K, R> {
             }
             Request::Ask(_) => self.work(request),
         }
-    }
-}
-
-// Whether a turn did what a request asks at a node.
-fn is_turn_of<K: HouseName>(node: NodeId, request: &Request, finished: &Finished<K>) -> bool
-    ensures each { IsJobOf node (asked_by request.now) finished.now.job → IsTrue result }
-    ensures only { IsTrue result → IsJobOf node (asked_by request.now) finished.now.job }
-{
-    is_job_of(node, request, finished.job())
-}
-
-// Whether a job is what a request asks at a node.
-fn is_job_of(node: NodeId, request: &Request, job: &Job) -> bool
-    ensures { IsTrue result ↔ IsJobOf node (asked_by request.now) job.now }
-{
-    match (request, job) {
-        (
-            Request::Submit {
-                client,
-                number,
-                payload,
-            },
-            Job::Submit {
-                node: at,
-                client: of,
-                number: ranked,
-                payload: bytes,
-            },
-        ) => *at == node
-            && *of == *client
-            && *ranked == *number
-            && bytes.as_slice() == payload.as_slice(),
-        (Request::Ask(control), _) => is_control_job(node, *control, job),
-        _ => false,
-    }
-}
-
-// Whether a job is what a request without fields asks at a node.
-fn is_control_job(node: NodeId, control: Control, job: &Job) -> bool
-    ensures { IsTrue result ↔ (job.now ≡ control_job node control) }
-{
-    match (control, job) {
-        (Control::Status, Job::Status(at)) => *at == node,
-        (Control::Crash, Job::Crash(at)) => *at == node,
-        (Control::Restart, Job::Restart(at)) => *at == node,
-        _ => false,
     }
 }

@@ -6,7 +6,7 @@ ghost use Rattle.urb_desk.specs.Desks.{IsJobOf, control_job};
 ghost use Rattle.urb_desk.specs.internal.Desks.{IsWork};
 
 use crate::TicketPlaces;
-use crate::worker_gone::{WorkerGone, after_answer, after_send};
+use crate::lost::{WorkerGone, await_answer, send_ticket};
 use crossbeam_channel::Sender;
 use std::alloc::Global;
 use std::marker::Model;
@@ -109,8 +109,8 @@ impl<'a, K: HouseName> DeskQueue<'a, K> {
         let (to, from) = crossbeam_channel::bounded(alloc, 1)?;
         let ticket = asked.into_ticket(to);
         let place = self.places.take(rt);
-        let came = match after_send(self.sender.send(rt, ticket)) {
-            Ok(Ok(())) => Ok(after_answer(from.recv(rt))),
+        let came = match send_ticket(rt, self.sender, ticket) {
+            Ok(Ok(())) => Ok(await_answer(rt, &from)),
             Ok(Err(gone)) => Ok(Err(gone)),
             Err(refused) => Err(refused),
         };

@@ -27,12 +27,12 @@ mod desk;
 pub mod desk_laws;
 mod desk_queue;
 mod frame_progress;
+mod lost;
 mod node_service;
 mod reader_pool;
 mod responses;
 mod ticket_places;
 pub mod worked;
-mod worker_gone;
 
 pub use acceptor::{Acceptor, Refusals, accept_clients};
 pub use client_desk::ClientDesk;

@@ -6,6 +6,7 @@ ghost use Rattle.urb_client.specs.Pages.{SaysPage};
 ghost use Rattle.urb_client.specs.Responses.{said_by};
 ghost use Rattle.urb_desk.specs.Desks.{gone, pair_of, said_of, told_of, told_state};
 
+use crate::lost::Lost;
 use std::alloc::Global;
 use urb_client::{NodeState, Response};
 use urb_group::{Answer, Reply, State};
@@ -23,8 +24,8 @@ fn node_state_of(state: State) -> NodeState
     }
 }
 
-// The response if the worker or the House is gone.
-pub(crate) fn down_response() -> Response
+// The response if the worker or the House is gone, or a stray turn came.
+pub(crate) fn down_response(_lost: &Lost) -> Response
     ensures { said_by result ≡ gone }
 {
     Response::refused(&Refusal::Down)
@@ -40,7 +41,7 @@ fn response_to_reply(reply: &Reply) -> Response
         Reply::Refused(refusal) => Response::refused(refusal),
         Reply::WentDown(_) | Reply::Up(_) => Response::Done,
         Reply::Same(_) | Reply::Stored(_) | Reply::Drafted { .. } | Reply::Sent(_) =>
-            down_response(),
+            Response::refused(&Refusal::Down),
     }
 }
 

@@ -1,15 +1,11 @@
 -- How many names of a sender a log has, by the last of them.
-use Rattle.std.proofs.Common.{Bool, List, [], ap, append-nil, arith, cond, eq-eqb, inl, inr, length}
-use Rattle.std.proofs.Common.{lt-ltb, map, nat_lt, ne_eqb, not, suc, sym, zero, ℕ, ◌++◌, ◌+◌, ◌<◌}
-use Rattle.std.proofs.Common.{◌==◌, ◌∙◌, ◌∷◌, ◌≡◌, ◌≤◌, ◌⊎◌}
-use Rattle.std.proofs.lemmas.Bool.{cases_lt, le-ltb}
+use Rattle.urb_feed.proofs.Common.{Bool, Label, List, [], ap, append-nil, arith, cases_lt, cond}
+use Rattle.urb_feed.proofs.Common.{eq-eqb, has_name, inl, inr, le-ltb, length, length-append}
+use Rattle.urb_feed.proofs.Common.{lt-ltb, map, name, names, nat_lt, ne_eqb, not, numbers_from}
+use Rattle.urb_feed.proofs.Common.{part_of, suc, sym, zero, ℕ, ◌++◌, ◌+◌, ◌<◌, ◌==◌, ◌∙◌, ◌∷◌, ◌≡◌}
+use Rattle.urb_feed.proofs.Common.{◌≤◌, ◌⊎◌}
 use Rattle.std.proofs.lemmas.List.Elements.{filter-append}
-use Rattle.std.proofs.lemmas.List.{length-append}
 use Rattle.urb_names.proofs.LogRows.{has-row, has-row-not, has_name-part}
-use Rattle.urb_names.specs.Names.{has_name, name, names}
-use Rattle.urb_names.specs.LabelsAndContents.{Label}
-use Rattle.urb_names.specs.Nodes.{numbers_from}
-use Rattle.urb_names.specs.Release.{part_of}
 
 -- the last of names in a row has the number of all
 last_in_row : (s a k : ℕ) (before : List Label) (x : Label)

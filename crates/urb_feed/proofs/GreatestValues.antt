@@ -1,8 +1,6 @@
 -- The greatest of the values at numbers in a row.
-use Rattle.std.proofs.Common.{List, [], ap, arith, max, suc, sym, ℕ, ◌++◌, ◌+◌, ◌∙◌, ◌∷◌, ◌≡◌}
-use Rattle.urb_feed.specs.Feeds.{greatest}
-use Rattle.urb_names.specs.Nodes.{numbers_from}
-use Rattle.urb_names.proofs.Places.{numbers_more}
+use Rattle.urb_feed.proofs.Common.{List, [], ap, arith, greatest, max, numbers_from, numbers_more}
+use Rattle.urb_feed.proofs.Common.{suc, sym, ℕ, ◌++◌, ◌+◌, ◌∙◌, ◌∷◌, ◌≡◌}
 
 greatest-append : (f : ℕ → ℕ) (ns : List ℕ) (n : ℕ)
     → greatest f (ns ++ n ∷ []) ≡ max (greatest f ns) (f n)

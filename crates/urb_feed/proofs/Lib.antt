@@ -7,6 +7,7 @@
 -- `row_by_log`). From these, the numbers of which a node needs nothing are skipped (`skips`).
 -- Portions puts all together (`is_portion`). The safety of worlds, which `urb_world` proves, gives
 -- the order of the names in a log.
+mod Common
 pub mod Deliveries
 pub mod GreatestValues
 pub mod NumberedLists

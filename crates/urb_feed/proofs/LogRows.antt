@@ -1,20 +1,15 @@
 -- Which names of a sender a node lacks, by what a group says of the node's log and of the sender.
-use Rattle.std.proofs.Common.{Bool, List, None, Option, Some, ap, arith, cond, false, length, lt-ltb}
-use Rattle.std.proofs.Common.{nat_le, nat_lt, not, refl, sym, true, unwrap_or, ℕ, ◌&&◌, ◌∙◌, ◌≡◌}
-use Rattle.std.proofs.Common.{subst, suc, ◌≤◌}
-use Rattle.std.proofs.lemmas.Bool.{and_from, and_left, cond-true}
+use Rattle.urb_feed.proofs.Common.{Bool, GroupView, IsRow, Label, Limits, List, None, Option, Shows}
+use Rattle.urb_feed.proofs.Common.{Some, World, and_from, and_left, ap, arith, cond, cond-true}
+use Rattle.urb_feed.proofs.Common.{false, has_name, is_node, length, lt-ltb, name, names, nat_le}
+use Rattle.urb_feed.proofs.Common.{nat_lt, not, part_of, refl, stored, subst, suc, sym, true}
+use Rattle.urb_feed.proofs.Common.{unwrap_or, ℕ, ◌&&◌, ◌∙◌, ◌≡◌, ◌≤◌}
 use Rattle.std.proofs.lemmas.Option.{cond_some}
 use Rattle.urb_feed.proofs.Deliveries.{has_by_number}
 use Rattle.urb_feed.proofs.LackConditions.{neither, sent, unsent}
-use Rattle.urb_feed.specs.internal.SenderRows.{IsRow}
 use Rattle.urb_group.specs.GroupCalls.{TellsLog}
 use Rattle.urb_world.specs.SafetyProperties.{Safe}
-use Rattle.urb_group.specs.GroupViews.{GroupView, IsSound, Shows}
-use Rattle.urb_world.specs.World.{World, stored}
-use Rattle.urb_names.specs.Names.{has_name, name, names}
-use Rattle.urb_names.specs.LabelsAndContents.{Label, Limits}
-use Rattle.urb_names.specs.Nodes.{is_node}
-use Rattle.urb_names.specs.Release.{part_of}
+use Rattle.urb_group.specs.GroupViews.{IsSound}
 use Rattle.urb_stable.specs.DeliveredLogs.{log}
 
 -- how many messages a node has broadcast; 0 if the group has no such node

@@ -1,9 +1,8 @@
 -- Lists that come from numbers in a row, one number after another.
-use Rattle.std.proofs.Common.{List, [], ap, append-nil, arith, flat_map, length, refl}
-use Rattle.std.proofs.Common.{suc, sym, zero, ℕ, ◌*◌, ◌++◌, ◌+◌, ◌<◌, ◌∙◌, ◌∷◌, ◌≡◌, ◌≤◌}
-use Rattle.std.proofs.lemmas.List.{flat_map_more, length-append}
-use Rattle.urb_names.specs.Nodes.{numbers_from}
-use Rattle.urb_names.proofs.Places.{numbers_more}
+use Rattle.urb_feed.proofs.Common.{List, [], ap, append-nil, arith, flat_map, length, length-append}
+use Rattle.urb_feed.proofs.Common.{numbers_from, numbers_more, refl, suc, sym, zero, ℕ, ◌*◌, ◌++◌}
+use Rattle.urb_feed.proofs.Common.{◌+◌, ◌<◌, ◌∙◌, ◌∷◌, ◌≡◌, ◌≤◌}
+use Rattle.std.proofs.lemmas.List.{flat_map_more}
 
 module _ {A : Type 0} (f : ℕ → List A) where
   -- what comes of one more number

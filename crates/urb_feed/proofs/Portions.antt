@@ -1,18 +1,16 @@
 -- The portions of a feed: how many packets they have, and what they are.
-use Rattle.std.proofs.Common.{Bool, List, None, Option, Some, [], ap, arith, cond, false, inl, inr}
-use Rattle.std.proofs.Common.{length, refl, suc, true, ℕ, ◌-◌, ◌<◌, ◌==◌, ◌∙◌, ◌≡◌, ◌≤◌, ◌⊎◌}
-use Rattle.std.proofs.lemmas.Bool.{cases_lt}
+use Rattle.urb_feed.proofs.Common.{Bool, GroupView, IsPortion, Label, LacksNoneUpTo, List, None}
+use Rattle.urb_feed.proofs.Common.{Option, Shows, Some, World, [], ap, arith, cases_lt, cond, false}
+use Rattle.urb_feed.proofs.Common.{inl, inr, lacks, length, name, needed, needed_from, needed_of}
+use Rattle.urb_feed.proofs.Common.{offer, offers, refl, stored, suc, true, ℕ, ◌-◌, ◌<◌, ◌==◌, ◌∙◌}
+use Rattle.urb_feed.proofs.Common.{◌≡◌, ◌≤◌, ◌⊎◌}
 use Rattle.urb_feed.proofs.NumberedLists.{bounded}
 use Rattle.urb_feed.proofs.SkippedNumbers.{skips}
-use Rattle.urb_feed.specs.Feeds.{IsPortion}
-use Rattle.urb_feed.specs.MissingNames.{carrying, lacks, needed, needed_from, needed_of, offer, offers}
+use Rattle.urb_feed.specs.MissingNames.{carrying}
 use Rattle.urb_feed.specs.declared.feed.TheConstants.{MOST_PACKETS, PORTION}
-use Rattle.urb_feed.specs.internal.SenderRows.{HasWorld, LacksNoneUpTo}
-use Rattle.urb_group.specs.GroupViews.{GroupView, Shows}
-use Rattle.urb_world.specs.World.{World, stored}
+use Rattle.urb_feed.specs.internal.SenderRows.{HasWorld}
 use Rattle.urb_names.specs.CarriedPackets.{Carried}
-use Rattle.urb_names.specs.Names.{name}
-use Rattle.urb_names.specs.LabelsAndContents.{Content, Label}
+use Rattle.urb_names.specs.LabelsAndContents.{Content}
 use Rattle.urb_names.specs.Pairs.{message_of}
 use Rattle.urb_names.specs.declared.limits.TheConstants.{MAX_NODES}
 use Rattle.urb_stable.specs.Records.{pend}

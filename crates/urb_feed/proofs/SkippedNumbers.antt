@@ -1,17 +1,13 @@
 -- Numbers of which a node needs nothing.
-use Rattle.std.proofs.Common.{[], ap, arith, false, inl, inr, lt-ltb, max, nat_le, nat_lt, suc, sym}
-use Rattle.std.proofs.Common.{ℕ, ◌+◌, ◌-◌, ◌<◌, ◌∙◌, ◌≡◌, ◌≤◌, ◌⊎◌}
-use Rattle.std.proofs.lemmas.Bool.{and_from, and_left, and_right, cases_eq, cases_lt, cond-false}
-use Rattle.std.proofs.lemmas.Bool.{cond-true, le-leb, le-ltb, lt-leb}
+use Rattle.urb_feed.proofs.Common.{GroupView, IsRow, LacksNoneBelow, LacksNoneUpTo, Limits, Shows}
+use Rattle.urb_feed.proofs.Common.{World, [], and_from, and_left, and_right, ap, arith, cases_lt}
+use Rattle.urb_feed.proofs.Common.{cond-true, false, inl, inr, is_node, lacks, le-ltb, lt-leb}
+use Rattle.urb_feed.proofs.Common.{lt-ltb, max, name, nat_le, nat_lt, needed, needed_from}
+use Rattle.urb_feed.proofs.Common.{needed_of, offers, suc, sym, ℕ, ◌+◌, ◌-◌, ◌<◌, ◌∙◌, ◌≡◌, ◌≤◌}
+use Rattle.urb_feed.proofs.Common.{◌⊎◌}
+use Rattle.std.proofs.lemmas.Bool.{cases_eq, cond-false, le-leb}
 use Rattle.urb_feed.proofs.NumberedLists.{later, same_of_each}
 use Rattle.urb_feed.proofs.LackConditions.{skipped}
-use Rattle.urb_feed.specs.MissingNames.{lacks, needed, needed_from, needed_of, offers}
-use Rattle.urb_feed.specs.internal.SenderRows.{IsRow, LacksNoneBelow, LacksNoneUpTo}
-use Rattle.urb_group.specs.GroupViews.{GroupView, Shows}
-use Rattle.urb_world.specs.World.{World}
-use Rattle.urb_names.specs.Names.{name}
-use Rattle.urb_names.specs.LabelsAndContents.{Limits}
-use Rattle.urb_names.specs.Nodes.{is_node}
 
 -- a name that lacks nowhere needs nothing
 pub needs_nothing : (w : World) (q s j : ℕ) → lacks w q (name s j) ≡ false

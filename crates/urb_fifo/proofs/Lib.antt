@@ -7,6 +7,7 @@
 -- sender (`part-released`), and what one more certificate releases (`released-more`). Read the
 -- files in the order of the list below: rows of names, the release, lengths, and the invariant with
 -- its space.
+mod Common
 pub mod NameRows
 pub mod LogReleases
 pub mod LogLengths

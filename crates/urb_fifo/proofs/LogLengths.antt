@@ -1,13 +1,9 @@
 -- A log's length is limited, because it has a limited number of names of each sender.
-use Rattle.std.proofs.Common.{◌≡◌, ℕ, zero, suc, ◌+◌, ◌*◌, ◌<◌, ◌≤◌, Bool, true, false, cond, ◌==◌}
-use Rattle.std.proofs.Common.{nat_lt, List, [], ◌∷◌, length, filter, refl, sym, ap, ◌∙◌, arith}
-use Rattle.std.proofs.Common.{ltb-true, ltb-false, lt-ltb}
-use Rattle.std.proofs.lemmas.Bool.{eqb-false, or_left, or_right}
-use Rattle.urb_names.specs.declared.limits.TheConstants.{MAX_NODES}
-use Rattle.urb_names.specs.LabelsAndContents.{Label}
-use Rattle.urb_names.specs.Names.{has_name, same_name}
-use Rattle.urb_names.specs.Release.{part_of}
-use Rattle.urb_names.proofs.SameNames.{same_name-same}
+use Rattle.urb_fifo.proofs.Common.{Bool, Label, List, MAX_NODES, [], ap, arith, cond, false, filter}
+use Rattle.urb_fifo.proofs.Common.{has_name, length, lt-ltb, ltb-false, ltb-true, nat_lt, or_left}
+use Rattle.urb_fifo.proofs.Common.{part_of, refl, same_name, same_name-same, suc, sym, true, zero}
+use Rattle.urb_fifo.proofs.Common.{ℕ, ◌*◌, ◌+◌, ◌<◌, ◌==◌, ◌∙◌, ◌∷◌, ◌≡◌, ◌≤◌}
+use Rattle.std.proofs.lemmas.Bool.{eqb-false, or_right}
 
 -- the names of the senders below m
 below : ℕ → List Label → List Label

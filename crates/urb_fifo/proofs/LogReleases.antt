@@ -1,18 +1,16 @@
 -- The log is the release of certificates, and stays so as more come.
-use Rattle.std.proofs.Common.{◌≡◌, ℕ, ◌+◌, ◌-◌, ◌<◌, ◌≤◌, ◌||◌, Bool, true, false, not, List}
-use Rattle.std.proofs.Common.{◌∷◌, ◌++◌, length, filter, refl, sym, ap, subst, ◌∙◌, ⊎_elim, arith}
-use Rattle.std.proofs.Common.{append-nil}
-use Rattle.std.proofs.lemmas.Bool.{cond-false, cases_lt}
-use Rattle.urb_names.specs.LabelsAndContents.{Label}
-use Rattle.urb_names.specs.Names.{has_name, name, name_lt, same_name}
-use Rattle.urb_names.specs.RisingLists.{placed, reserved_for}
-use Rattle.urb_names.specs.Release.{beginning, part_of, released}
-use Rattle.urb_names.proofs.SameNames.{same_name-true}
+use Rattle.urb_fifo.proofs.Common.{Bool, Delivery, IsDelivery, IsNameOf, IsReleaseOf, Label, List}
+use Rattle.urb_fifo.proofs.Common.{ap, append-nil, arith, beginning, beginning_is, cases_lt}
+use Rattle.urb_fifo.proofs.Common.{cond-false, false, filter, has_name, length, length-row, name}
+use Rattle.urb_fifo.proofs.Common.{name_lt, newly_released, not, part_of, placed, reach}
+use Rattle.urb_fifo.proofs.Common.{reach-certified, refl, reserved_for, row, same_name}
+use Rattle.urb_fifo.proofs.Common.{same_name-true, subst, sym, true, ℕ, ⊎_elim, ◌++◌, ◌+◌, ◌-◌, ◌<◌}
+use Rattle.urb_fifo.proofs.Common.{◌||◌, ◌∙◌, ◌∷◌, ◌≡◌, ◌≤◌}
+use Rattle.urb_names.specs.Release.{released}
 use Rattle.urb_names.proofs.ElementPlaces.{any_insert}
-use Rattle.urb_names.proofs.LogRows.{beginning_is, length-row, part-released, reach, row}
-use Rattle.urb_names.proofs.CertificateReaches.{reach-certified, reach-same, released-more}
-use Rattle.urb_fifo.specs.Delivery.{Delivery, IsDelivery, IsNameOf, IsReleaseOf}
-use Rattle.urb_fifo.specs.NewReleases.{certifying, newly_released}
+use Rattle.urb_names.proofs.LogRows.{part-released}
+use Rattle.urb_names.proofs.CertificateReaches.{reach-same, released-more}
+use Rattle.urb_fifo.specs.NewReleases.{certifying}
 
 -- the release of certificates holds each sender's certified names from 1 on without a gap
 pub parts_of_release : (certificates : List Label) (d : Delivery) → IsReleaseOf certificates d

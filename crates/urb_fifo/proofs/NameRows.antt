@@ -1,7 +1,6 @@
 -- One sender's names, from one number to another, as a loop releases them.
-use Rattle.std.proofs.Common.{◌≡◌, ℕ, suc, ◌+◌, ◌-◌, ◌<◌, ◌≤◌, [], ◌∷◌, map, refl, arith}
-use Rattle.urb_names.specs.Names.{name}
-use Rattle.urb_names.specs.Nodes.{numbers_from}
+use Rattle.urb_fifo.proofs.Common.{[], arith, map, name, numbers_from, refl, suc, ℕ, ◌+◌, ◌-◌, ◌<◌}
+use Rattle.urb_fifo.proofs.Common.{◌∷◌, ◌≡◌, ◌≤◌}
 
 -- the names after a number up to the end are the next one, and those after it
 pub row_next : (s k end : ℕ) → k < end

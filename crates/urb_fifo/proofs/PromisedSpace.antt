@@ -1,28 +1,23 @@
 -- The invariant of a release, and its space, when a certificate comes.
-use Rattle.std.proofs.Common.{◌≡◌, ℕ, suc, ◌+◌, ◌-◌, ◌<◌, ◌≤◌, true, false, not, List, ◌∷◌, ◌++◌}
-use Rattle.std.proofs.Common.{filter, length, map, Some, refl, sym, ap, ap₂, subst, ◌∙◌, ⊎_elim}
-use Rattle.std.proofs.Common.{inl, inr, ◌⊎◌, arith, eq-eqb, vec_len, vec_capacity}
-use Rattle.std.proofs.lemmas.Bool.{cases_lt, false≢true, or_cases, or_left}
+use Rattle.urb_fifo.proofs.Common.{Delivery, IsDelivery, IsNameOf, IsReleaseOf, Label, List}
+use Rattle.urb_fifo.proofs.Common.{MAX_NODES, Some, ap, ap₂, arith, beginning, beginning_is}
+use Rattle.urb_fifo.proofs.Common.{cases_lt, eq-eqb, false, filter, has_name, inl, inr, length}
+use Rattle.urb_fifo.proofs.Common.{length-row, map, name, name_lt, newly_released, not}
+use Rattle.urb_fifo.proofs.Common.{numbers_from, or_left, part_of, placed, reach, reach-certified}
+use Rattle.urb_fifo.proofs.Common.{refl, reserved_for, row, same_name, same_name-same}
+use Rattle.urb_fifo.proofs.Common.{same_name-true, subst, suc, sym, true, vec_capacity, vec_len}
+use Rattle.urb_fifo.proofs.Common.{view_of, ℕ, ⊎_elim, ◌++◌, ◌+◌, ◌-◌, ◌<◌, ◌∙◌, ◌∷◌, ◌≡◌, ◌≤◌, ◌⊎◌}
+use Rattle.std.proofs.lemmas.Bool.{false≢true, or_cases}
 use Rattle.std.specs.Bool.{IsTrue}
-use Rattle.urb_names.specs.declared.limits.TheConstants.{MAX_NODES}
-use Rattle.urb_names.specs.LabelsAndContents.{IsLimits, Label}
-use Rattle.urb_names.specs.Names.{has_name, name, name_lt, same_name}
-use Rattle.urb_names.specs.Nodes.{numbers_from}
-use Rattle.urb_names.specs.RisingLists.{is_rising, placed, reserved_for}
-use Rattle.urb_names.specs.Release.{beginning, part_of}
-use Rattle.urb_names.proofs.SameNames.{same_name-same, same_name-true}
+use Rattle.urb_names.specs.LabelsAndContents.{IsLimits}
+use Rattle.urb_names.specs.RisingLists.{is_rising}
 use Rattle.urb_names.proofs.ElementPlaces.{names_ordered, reserved_for-some, rising_placed}
-use Rattle.urb_names.proofs.LogRows.{beginning_is, length-row, log_certified, new_on_row, reach}
-use Rattle.urb_names.proofs.LogRows.{reach-grows, row}
-use Rattle.urb_names.proofs.CertificateReaches.{reach-certified}
-use Rattle.urb_fifo.specs.Delivery.{Delivery, IsDelivery, IsNameOf, IsReleaseOf}
-use Rattle.urb_fifo.specs.NewReleases.{newly_released}
-use Rattle.urb_fifo.specs.LogFields.{view_of}
+use Rattle.urb_names.proofs.LogRows.{log_certified, new_on_row, reach-grows}
 use Rattle.urb_fifo.specs.internal.LogInvariant.{HasRoom, IsKept}
 use Rattle.urb_fifo.specs.declared.fifo.Fifo.TheInside.{Inside}
 use Rattle.urb_fifo.proofs.LogLengths.{all_parts}
-use Rattle.urb_fifo.proofs.LogReleases.{certified_with, part_reaches, parts_of_release, reach_within}
-use Rattle.urb_fifo.proofs.LogReleases.{release_goes_on}
+use Rattle.urb_fifo.proofs.LogReleases.{certified_with, part_reaches, parts_of_release}
+use Rattle.urb_fifo.proofs.LogReleases.{reach_within, release_goes_on}
 
 -- what always holds follows from the order, the limits and the certificates
 pub delivery_of : (d : Delivery) (certificates : List Label) → IsLimits d.limits

@@ -1,14 +1,8 @@
 -- Stores that were asked in parallel: from what is known at each place to what is known of the
 -- lists.
-use Rattle.std.proofs.Common.{List, Ok, Result, [], arith, length, map, suc, ℕ, ◌<◌, ◌∷◌, ◌≡◌}
-use Rattle.std.specs.Prelude.{Vec, slice_index_or}
-use Rattle.urb_stable.specs.Entries.{Entry}
-use Rattle.urb_stable.specs.declared.stable.Stable.{Ghosts}
-use Rattle.urb_stable.specs.declared.stable.StoreFault.{StoreFault}
-use Rattle.urb_group.specs.StoreQuestions.{Gives}
-use Rattle.urb_group.specs.StoreOpenings.{AllGive}
-use Rattle.urb_folder.specs.AskedStores.{AllAnswer}
-use Rattle.urb_stable.specs.StableStorage.{list_in}
+use Rattle.urb_folder.proofs.Common.{AllAnswer, AllGive, Entry, Ghosts, Gives, List, Ok, Result}
+use Rattle.urb_folder.proofs.Common.{StoreFault, Vec, [], arith, length, list_in, map}
+use Rattle.urb_folder.proofs.Common.{slice_index_or, suc, ℕ, ◌<◌, ◌∷◌, ◌≡◌}
 
 -- each of these places was asked
 pub all_answered : {T S A : Type 0} (g : Ghosts S A) (store : T → S)

@@ -1,22 +1,16 @@
 -- What is known of a group that is opened over stores asked in parallel. It goes on from the world
 -- before the stop. A stop inside the call leaves no more in the stores than a stop before it.
-use Rattle.std.proofs.Common.{Err, IfOk, List, Ok, Result, Some, [], false, inl, inr, map, refl}
-use Rattle.std.proofs.Common.{subst, suc, sym, zero, ℕ, ◌++◌, ◌∙◌, ◌∷◌, ◌≡◌, ◌⊎◌}
-use Rattle.std.specs.List.{All}
-use Rattle.std.specs.Prelude.{Option, Vec, length, slice_get, slice_index_or}
+use Rattle.urb_folder.proofs.Common.{All, AllAnswer, AllGive, Entry, Err, Ghosts, Gives, GroupView}
+use Rattle.urb_folder.proofs.Common.{HasStopped, IfOk, IsContents, IsKnown, Limits, List, Node, Ok}
+use Rattle.urb_folder.proofs.Common.{Option, Result, RetrievesTogether, Some, StoreFault, Vec}
+use Rattle.urb_folder.proofs.Common.{World, [], false, get_or_from_slice_get, get_some, inl, inr}
+use Rattle.urb_folder.proofs.Common.{length, list_in, map, refl, refusal_of, slice_get}
+use Rattle.urb_folder.proofs.Common.{slice_index_or, subst, suc, sym, zero, ℕ, ◌++◌, ◌∙◌, ◌∷◌, ◌≡◌}
+use Rattle.urb_folder.proofs.Common.{◌⊎◌}
 use Rattle.std.proofs.lemmas.Bool.{false≢true}
 use Rattle.std.proofs.lemmas.List.Elements.{recursion_from_All}
-use Rattle.std.proofs.lemmas.Option.{get_or_from_slice_get}
-use Rattle.urb_names.proofs.Places.{get_some}
-use Rattle.urb_names.specs.LabelsAndContents.{Limits}
 use Rattle.urb_names.specs.declared.refusal.Refusal.{Refusal}
-use Rattle.urb_names.specs.declared.refusal.Refusal.TheVariants as refusal
-use Rattle.urb_node.specs.Part.{Node}
-use Rattle.urb_stable.specs.Entries.{Entry}
-use Rattle.urb_stable.specs.StableStorage.{IsContents, is_bad_row, is_place, list_in, refusal_of}
-use Rattle.urb_stable.specs.declared.stable.Stable.{Ghosts}
-use Rattle.urb_stable.specs.declared.stable.StoreFault.{StoreFault}
-use Rattle.urb_stable.specs.declared.stable.StoreFault.TheVariants as fault
+use Rattle.urb_stable.specs.StableStorage.{is_bad_row, is_place}
 use Rattle.urb_group.proofs.stops.NodeStoreInvariant.{one-store}
 use Rattle.urb_group.proofs.stops.OpenedClusters.{given-at, opens-goes_on, opens-leaves}
 use Rattle.urb_group.proofs.stops.OpenedClusters.{opens-stocked}
@@ -24,16 +18,13 @@ use Rattle.urb_group.proofs.stops.SecuredClusters.{read-honest}
 use Rattle.urb_group.proofs.stops.SecuredOpenings.{opens-secured}
 use Rattle.urb_group.proofs.stops.StockedClusters.{asked-left}
 use Rattle.urb_group.proofs.stops.StockedPlays.{all-at}
-use Rattle.urb_group.specs.StoreQuestions.{Gives}
 use Rattle.urb_group.specs.GroupCalls.{Opens}
-use Rattle.urb_group.specs.StoreOpenings.{AllGive, HasStopped}
-use Rattle.urb_group.specs.GroupViews.{GroupView}
-use Rattle.urb_group.specs.StoreContents.{AllHold, HoldsOf, IsKnown, IsSecured, IsStocked, RestLeaves}
+use Rattle.urb_group.specs.StoreContents.{AllHold, HoldsOf, IsSecured, IsStocked, RestLeaves}
 use Rattle.urb_group.specs.StoreContents.{StopLeaves}
-use Rattle.urb_world.specs.World.{World}
 use Rattle.urb_folder.specs.GroupsAfterStop.{AreIntact, ContinuesTogether, beside_stores}
-use Rattle.urb_folder.specs.AskedStores.{AllAnswer, AreRefusedTogether, OpensTogether}
-use Rattle.urb_folder.specs.internal.RetrievedImages.{RetrievesTogether}
+use Rattle.urb_folder.specs.AskedStores.{AreRefusedTogether, OpensTogether}
+use Rattle.urb_names.specs.declared.refusal.Refusal.TheVariants as refusal
+use Rattle.urb_stable.specs.declared.stable.StoreFault.TheVariants as fault
 
 -- ---- each store was asked
 

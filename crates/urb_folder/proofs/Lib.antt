@@ -8,6 +8,7 @@
 -- secured (`secured-together`). They use the folder `stops` of `urb_group`. StoppedFiles says that
 -- journals hold what a stop left in their files (`stopped_files`). SendableFiles says what may go to
 -- a thread. EmptiedLists and RecordCounts have one small lemma each.
+mod Common
 mod EmptiedLists
 mod ContinuedGroups
 mod PlacesInOrder

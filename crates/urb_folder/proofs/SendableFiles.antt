@@ -1,19 +1,18 @@
 -- What may go to a thread: the kinds of file, and a journal in such a file.
+use Rattle.urb_folder.proofs.Common.{List, Result, StoreFault}
 use denote.RattleType.{RattleType}
 use denote.Param.Send.{IsSend, sendable}
-use Rattle.std.proofs.Common.{List, Result}
 use Rattle.std.proofs.Crossing.{crosses}
 use Rattle.urb_folder.proofs.journal.Journal.TheSendSync.{the_field_send}
+use Rattle.urb_sqlite.specs.declared.claims.NodeClaim.{NodeClaim}
+use Rattle.urb_folder.specs.declared.journal.Journal.{Journal}
 use Rattle.std.specs.contracts.result.Result as result
 use Rattle.sqlite_disk.specs.declared.Disk as disk
 use Rattle.sqlite_std_file.specs.contracts.host.Host as Host
 use Rattle.urb_stable.specs.contracts.stable.StoreFault as Fault
-use Rattle.urb_stable.specs.declared.stable.StoreFault.{StoreFault}
 use Rattle.urb_sqlite.specs.contracts.node_file.Unnamed as Unnamed
 use Rattle.urb_sqlite.specs.contracts.claims.NodeClaim as Claim
-use Rattle.urb_sqlite.specs.declared.claims.NodeClaim.{NodeClaim}
 use Rattle.urb_folder.specs.contracts.journal.Journal as Row
-use Rattle.urb_folder.specs.declared.journal.Journal.{Journal}
 
 -- the type of the operating system's files may go to a thread
 pub host_send : IsSend Host.the_field.row

@@ -1,30 +1,23 @@
 -- Journals that were opened in the files that a stop had left.
-use Rattle.std.proofs.Common.{List, None, Option, Some, [], arith, inl, inr, length, refl, subst}
-use Rattle.std.proofs.Common.{suc, sym, zero, ⊎_elim, ℕ, ◌++◌, ◌<◌, ◌∙◌, ◌≡◌, ◌≤◌, ◌⊎◌}
-use Rattle.std.specs.List.{All}
-use Rattle.std.specs.Prelude.{slice_get}
+use Rattle.urb_folder.proofs.Common.{All, Entry, Ghosts, GroupView, HasStopped, Image, IsContents}
+use Rattle.urb_folder.proofs.Common.{IsKnown, Limits, List, Node, None, Option, Some, World, []}
+use Rattle.urb_folder.proofs.Common.{arith, get_or_from_slice_get, get_some, inl, inr, length, refl}
+use Rattle.urb_folder.proofs.Common.{slice_get, subst, suc, sym, zero, ℕ, ⊎_elim, ◌++◌, ◌<◌, ◌∙◌}
+use Rattle.urb_folder.proofs.Common.{◌≡◌, ◌≤◌, ◌⊎◌}
 use Rattle.std.proofs.lemmas.Bool.{cases_lt}
 use Rattle.std.proofs.lemmas.List.{get_or_past}
-use Rattle.std.proofs.lemmas.Option.{get_or_from_slice_get, slice_get_within}
+use Rattle.std.proofs.lemmas.Option.{slice_get_within}
 use Rattle.sqlite.specs.Files.{HoldsDatabase}
 use Rattle.sqlite_trees.specs.Tree.{Trees}
-use Rattle.sqlite_wal.specs.Recovery.{Image}
-use Rattle.urb_names.proofs.Places.{get_some}
-use Rattle.urb_names.specs.LabelsAndContents.{Limits}
-use Rattle.urb_stable.specs.Entries.{Entry}
-use Rattle.urb_stable.specs.StableStorage.{IsContents}
 use Rattle.urb_stable.specs.StoredTogether.{IsContentsOrAll}
-use Rattle.urb_node.specs.Part.{Node, opened_node}
+use Rattle.urb_node.specs.Part.{opened_node}
 use Rattle.urb_node.specs.Steps.{doubt}
-use Rattle.urb_stable.specs.declared.stable.Stable.{Ghosts}
 use Rattle.urb_node.specs.NodeViews.{no_view}
-use Rattle.urb_group.specs.GroupViews.{GroupView, IsSound, Shows, view_of}
+use Rattle.urb_group.specs.GroupViews.{IsSound, Shows, view_of}
 use Rattle.urb_world.specs.ProcessStops.{MayLeave}
-use Rattle.urb_group.specs.StoreContents.{IsKnown, LeavesAhead, LeavesTogether, WouldLeave}
-use Rattle.urb_group.specs.StoreContents.{WouldLeaveAhead}
+use Rattle.urb_group.specs.StoreContents.{LeavesAhead, LeavesTogether, WouldLeave, WouldLeaveAhead}
 use Rattle.urb_world.specs.StoresAhead.{IsAsStored, IsOrStandsFor}
-use Rattle.urb_group.specs.StoreOpenings.{HasStopped}
-use Rattle.urb_world.specs.World.{World, stored}
+use Rattle.urb_world.specs.World.{stored}
 use Rattle.urb_sqlite.proofs.FoundRecords.{found_as_held}
 use Rattle.urb_sqlite.specs.FoundJournals.{AreFoundIn, HoldsRecords}
 use Rattle.urb_folder.specs.StoppedFiles.{HasLeft, HoldsNode, HoldsStopped}

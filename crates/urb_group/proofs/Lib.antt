@@ -11,6 +11,7 @@
 -- The proofs use lemmas of urb_world (steps, safety, recovery and rounds), urb_names (names and
 -- pairs), urb_stable (records, logs and images that fit together) and urb_node (what a node's
 -- memory shows).
+mod Common
 pub mod shown
 pub mod moves
 pub mod calls

@@ -2,7 +2,8 @@
 use Rattle.std.specs.Prelude.{List, None, Result, [], false, ◌≡◌}
 use Rattle.urb_stable.specs.Entries.{Entry}
 use Rattle.urb_stable.specs.StableStorage.{CountsFailures, IsAllowedFault, IsContents, IsRetrieved}
-use Rattle.urb_stable.specs.StableStorage.{KeepsTrust, LeavesNoMore, SettlesDoubt, StaysShut}
+use Rattle.urb_stable.specs.StableStorage.{KeepsTrust, SettlesDoubt, StaysShut}
+use Rattle.urb_stable.specs.StoredTogether.{LeavesNoMore}
 use Rattle.urb_stable.specs.declared.stable.Stable.{Ghosts}
 use Rattle.urb_stable.specs.declared.stable.StoreFault.{StoreFault}
 

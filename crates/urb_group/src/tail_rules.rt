@@ -325,7 +325,7 @@ impl<A: Allocator + Copy> Group<A> {
     /// breaks a rule. The answer doesn't say that the node's next events draft these records.
     ///
     /// Allocates no memory. It looks up each record by its name, and reads the records before it in
-    /// the list. For a pair of the node's own it also looks up the next number of the pair's client.
+    /// the list. If a pair is the node's own, it also looks up the client's next number.
     pub fn may_follow(&self, node: NodeId, records: &[Record<Message<A>>]) -> bool
         ensures { TellsTail self.now node records.now result }
     {

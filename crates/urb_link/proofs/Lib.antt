@@ -1,1 +1,3 @@
--- Loops that wait for a stop, and a round of ticks. All else here is proved without lemmas.
+-- Loops that wait for a stop, the channels of workers, and a round of ticks. All else here is proved
+-- without lemmas.
+pub mod QueuesInOrder

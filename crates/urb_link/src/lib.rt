@@ -7,10 +7,9 @@
 //!
 //! ```text
 //! let station = Station::open(rt, udp_port, tcp_port)?;
-//! let (queue, jobs) = crossbeam_channel::bounded(alloc, 64)?;     // for each node
+//! let (queues, jobs) = open_channels(alloc, nodes, 64)?;          // a channel for each node
 //! // on threads of their own:
-//! let arrivals = ArrivalQueue::new(node, &queue);
-//! receive(rt, alloc, &stop, &station, arrivals);                  // a node's datagrams
+//! receive(rt, alloc, &stop, &station, queues[place].arrivals());  // a node's datagrams
 //! timer(rt, &stop, 100, TickQueues::of(&queues)?);                // a tick at each node each 100 ms
 //! // at the end: set the stop, and wake the receivers
 //! stop.set();
@@ -28,6 +27,7 @@ mod door;
 mod handed;
 mod in_flight;
 mod links;
+mod node_queue;
 mod offers;
 mod receiver;
 mod spares;
@@ -44,6 +44,7 @@ pub use door::Door;
 pub use handed::Handed;
 pub use in_flight::{CARRYING, FULL_BACKLOG, InFlight, LONG_BACKLOG, MOST_IN_FLIGHT};
 pub use links::{Link, MemoryLink, PacedLink, UdpLink};
+pub use node_queue::{NodeJobs, NodeQueue, open_channels};
 pub use receiver::receive;
 pub use spares::{SPARES, Spares};
 pub use stations::{Station, rest};

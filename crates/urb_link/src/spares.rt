@@ -61,8 +61,8 @@ pub(crate) struct NodeSpares<'s> {
 }
 
 impl<'s> NodeSpares<'s> {
-    /// The buffers of a node, at its station. The stations are those of the nodes 1, 2, .. `None` if
-    /// there are too few for this node.
+    /// The buffers of a node, at its station. The stations are those of nodes 1, 2, and so on. `None`
+    /// if this node has no station among them.
     pub(crate) fn of(stations: &'s [Station], node: NodeId) -> Option<NodeSpares<'s>>
         ensures node { IfSome result (λ it. it.node ≡ node) }
         // It is the station at the node's place. There is none only if the list ends before it.

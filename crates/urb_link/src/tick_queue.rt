@@ -2,12 +2,12 @@
 //! node.
 
 ghost use Rattle.std.specs.Prelude.{◌≡◌, ◌+◌, ◌<◌, ◌≤◌, MatchOption, length};
+ghost use Rattle.urb_names.specs.Nodes.{nodes};
 ghost use Rattle.urb_names.specs.declared.limits.TheConstants.{MAX_NODES};
 ghost use Rattle.urb_link.specs.internal.Ticks.{IsTick};
 
-use crate::Ticket;
 use crate::offers::{Offered, offer};
-use crossbeam_channel::Sender;
+use crate::{NodeQueue, Ticket};
 use std::sync::Wait;
 use urb_names::{MAX_NODES, NodeId};
 use urb_show::HouseName;
@@ -26,16 +26,15 @@ fn tick_ticket<K: HouseName>(node: NodeId) -> Ticket<K>
 // The queue of a node's worker, as the timer has it.
 #[derive(Drop)]
 struct TickQueue<'a, K: HouseName> {
-    node: NodeId,
-    sender: &'a Sender<Ticket<K>>,
+    queue: &'a NodeQueue<K>,
 }
 
 impl<'a, K: HouseName> TickQueue<'a, K> {
     // Offers the worker a tick of its node.
     fn tick<R: Wait>(&self, rt: &R) -> Offered<K>
-        ensures { IsTick self.now.node result.job.value }
+        ensures { IsTick self.now.queue.now result.job.value }
     {
-        offer(rt, self.sender, tick_ticket(self.node))
+        offer(rt, self.queue.sender(), tick_ticket(self.queue.node()))
     }
 }
 
@@ -72,47 +71,49 @@ impl Ticked {
 /// queue but ticks of this node.
 #[derive(Drop)]
 pub struct TickQueues<'a, K: HouseName> {
-    senders: &'a [Sender<Ticket<K>>],
-    ghost bound: { length senders.now ≤ MAX_NODES },
+    queues: &'a [NodeQueue<K>],
+    ghost bound: { length queues.now ≤ MAX_NODES },
+    ghost order: { queues.now ≡ nodes (length queues.now) },
 }
 
 impl<'a, K: HouseName> TickQueues<'a, K> {
-    /// The way to the workers of nodes 1, 2, .., whose senders these are. `None` if there are more
+    /// The way to the workers of nodes 1, 2, .., whose queues these are. `None` if there are more
     /// than `MAX_NODES`.
-    pub fn of(senders: &'a [Sender<Ticket<K>>]) -> Option<TickQueues<'a, K>>
-        ensures { MatchOption result (MAX_NODES < length senders.now)
-            (λ queues. queues.senders.now ≡ senders.now) }
+    pub fn of(queues: &'a [NodeQueue<K>]) -> Option<TickQueues<'a, K>>
+        requires { queues.now ≡ nodes (length queues.now) }
+        ensures { MatchOption result (MAX_NODES < length queues.now)
+            (λ made. made.queues.now ≡ queues.now) }
     {
-        if usize::from(MAX_NODES) < senders.len() {
+        if usize::from(MAX_NODES) < queues.len() {
             return None;
         }
-        Some(TickQueues { senders })
+        Some(TickQueues { queues })
     }
 
     /// For how many workers these are.
     pub(crate) fn count(&self) -> usize
-        ensures { result ≡ length self.now.senders.now }
+        ensures { result ≡ length self.now.queues.now }
     {
-        self.senders.len()
+        self.queues.len()
     }
 
     // The queue at this place. The places 0, 1, .. are those of nodes 1, 2, ..
+    #[tactic(auto, using(crate::proofs::QueuesInOrder::at_place))]
     fn at(&self, place: usize) -> TickQueue<'a, K>
-        requires { place < length self.now.senders.now }
-        ensures { result.node ≡ place + 1 }
+        requires { place < length self.now.queues.now }
+        ensures { result.queue.now ≡ place + 1 }
     {
         TickQueue {
-            node: NodeId::new(place as u8 + 1).unwrap(),
-            sender: &self.senders[place],
+            queue: &self.queues[place],
         }
     }
 
     /// Offers each worker a tick of its node. A tick is lost if its worker's channel is full.
     pub(crate) fn tick_all<R: Wait>(&self, rt: &R) -> Ticked
-        ensures { result.last ≡ length self.now.senders.now }
+        ensures { result.last ≡ length self.now.queues.now }
     {
         let mut ticked = Ticked::none();
-        for place in 0..self.senders.len() {
+        for place in 0..self.queues.len() {
             ticked = ticked.with(self.at(place).tick(rt));
         }
         ticked

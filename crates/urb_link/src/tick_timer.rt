@@ -59,7 +59,7 @@ pub fn start_timer<'s, E, K: HouseName + Send + Sync, R: Wait + Clock + Sync>(
     millis: u32,
     queues: TickQueues<'s, K>,
 ) -> Option<Ticking>
-    ensures nodes { IfSome result (λ it. it.nodes ≡ length queues.entry.senders.now) }
+    ensures nodes { IfSome result (λ it. it.nodes ≡ length queues.entry.queues.now) }
     ensures millis { IfSome result (λ it. it.millis ≡ millis) }
 {
     let ticking = Ticking {

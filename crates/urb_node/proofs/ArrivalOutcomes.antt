@@ -1,38 +1,23 @@
 -- The outcome of a packet in a memory is the definition's for every node that the memory shows.
-use Rattle.std.proofs.Common.{◌≡◌, ◌≢◌, ℕ, zero, suc, ◌≤◌, Bool, true, false, not, ◌||◌, ◌&&◌, ◌==◌}
-use Rattle.std.proofs.Common.{List, [], ◌∷◌, count_by, Option, Some, None, is_none, refl, sym, ap}
-use Rattle.std.proofs.Common.{◌∙◌, subst, arith, ne_eqb}
-use Rattle.std.specs.Prelude.{if◌then◌else◌}
-use Rattle.urb_names.specs.LabelsAndContents.{Label, Content}
-use Rattle.urb_names.specs.Names.{has_name, same_name}
-use Rattle.urb_names.specs.Nodes.{nodes, numbers_from, is_majority, majority_passes}
-use Rattle.urb_names.specs.Pairs.{message_of}
-use Rattle.urb_names.specs.CarriedPackets.{says_certified}
-use Rattle.urb_names.specs.declared.flags.Flags.{Flags}
-use Rattle.urb_names.specs.Acknowledgements.{acked, with_ack}
-use Rattle.urb_names.specs.RisingLists.{placed}
-use Rattle.urb_names.proofs.ElementPlaces.{any_insert}
+use Rattle.urb_node.proofs.Common.{Answers, Bool, Cause, Cert, Content, Flags, Label, List, Memory}
+use Rattle.urb_node.proofs.Common.{Node, None, Option, Outcome, Pend, PendCert, Same, ShowsReady}
+use Rattle.urb_node.proofs.Common.{Some, Wants, [], acked, answer_with, answers, any_insert, ap}
+use Rattle.urb_node.proofs.Common.{arith, arrive_outcome, arrives, cert, certified_outcome}
+use Rattle.urb_node.proofs.Common.{count_by, counted_outcome, counted_with, counts, drafts, false}
+use Rattle.urb_node.proofs.Common.{has_name, hearing, hears, if◌then◌else◌, is_majority, is_none}
+use Rattle.urb_node.proofs.Common.{majority_passes, message_of, ne_eqb, not, packet_from}
+use Rattle.urb_node.proofs.Common.{pending_outcome, placed, ready_view, refl, reply_to, same_name}
+use Rattle.urb_node.proofs.Common.{says_certified, subst, suc, sym, takes, true, with_ack}
+use Rattle.urb_node.proofs.Common.{with_counted, zero, ℕ, ◌&&◌, ◌==◌, ◌||◌, ◌∙◌, ◌∷◌, ◌≡◌, ◌≢◌, ◌≤◌}
+use Rattle.urb_names.specs.Nodes.{nodes, numbers_from}
 use Rattle.urb_majority.specs.Acks.{ack_lt}
 use Rattle.urb_window.proofs.NodeCounts.{count_alike, count_one_more}
-use Rattle.urb_stable.specs.Records.{cert}
-use Rattle.urb_stable.specs.declared.record.Record.TheVariants.{Pend, PendCert, Cert}
-use Rattle.urb_node.specs.Part.{Node, packet_from}
-use Rattle.urb_node.specs.Replies.{Same}
-use Rattle.urb_node.specs.declared.answer.Answer.TheVariants as answer
-use Rattle.urb_node.specs.Steps.{answers, arrives, counts, drafts, hears, reply_to, takes}
-use Rattle.urb_node.specs.NodeMemories.{Memory, ShowsReady}
-use Rattle.urb_node.specs.internal.ReadyViews.{ready_view}
-use Rattle.urb_node.specs.internal.LayerAdditions.{counted_with}
-use Rattle.urb_node.specs.AnswerPackets.{answer_with}
-use Rattle.urb_node.specs.internal.Outcomes.{Answers, Outcome, Wants, arrive_outcome}
-use Rattle.urb_node.specs.internal.Outcomes.{certified_outcome, counted_outcome, hearing}
-use Rattle.urb_node.specs.internal.Outcomes.{pending_outcome, with_counted}
 use Rattle.urb_node.proofs.ShownNodes.{shown-found, shown-majority}
 use Rattle.urb_node.proofs.MemoryChanges.{counted-shows, heard-shows}
-use Rattle.urb_node.specs.declared.cause.Cause.{Cause}
 use Rattle.urb_node.proofs.SubmitOutcomes.{drafts-says}
 use Rattle.urb_node.proofs.OutcomeAgreement.{Says}
 use Rattle.urb_names.proofs.TruthValues.{eqb-turned}
+use Rattle.urb_node.specs.declared.answer.Answer.TheVariants as answer
 
 -- ---- two nodes
 

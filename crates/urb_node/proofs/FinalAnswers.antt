@@ -1,27 +1,17 @@
 -- Answers end: a packet that says "heard" is not answered, and an answer to an answer says it.
-use Rattle.std.proofs.Common.{Bool, List, None, Option, Some, [], eq-eqb, false, is_none, not, refl}
-use Rattle.std.proofs.Common.{subst, sym, true, ℕ, ◌==◌, ◌&&◌, ◌∙◌, ◌∷◌, ◌≡◌, ◌||◌}
-use Rattle.std.proofs.lemmas.Bool.{and_from, false≢true, or_left}
+use Rattle.urb_node.proofs.Common.{Bool, Carried, Cause, Cert, Content, Flags, Label, Limits, List}
+use Rattle.urb_node.proofs.Common.{Node, None, Option, Pend, PendCert, Reply, Same, Some, [], acked}
+use Rattle.urb_node.proofs.Common.{all_weaker, and_from, answers, arrives, cert, counts, drafts}
+use Rattle.urb_node.proofs.Common.{eq-eqb, false, false≢true, has_name, hears, if◌then◌else◌}
+use Rattle.urb_node.proofs.Common.{is_none, majority_passes, message_of, not, or_left, packet_from}
+use Rattle.urb_node.proofs.Common.{pend, refl, reply_to, same_name, same_name-same, says_certified}
+use Rattle.urb_node.proofs.Common.{subst, sym, takes, true, with_ack, ℕ, ◌&&◌, ◌==◌, ◌||◌, ◌∙◌, ◌∷◌}
+use Rattle.urb_node.proofs.Common.{◌≡◌}
 use Rattle.std.specs.List.{AllByRecursion}
-use Rattle.std.specs.Prelude.{if◌then◌else◌}
-use Rattle.urb_names.proofs.SameNames.{same_name-same}
-use Rattle.urb_names.proofs.SentPairs.{all_weaker}
-use Rattle.urb_names.specs.Acknowledgements.{acked, with_ack}
-use Rattle.urb_names.specs.CarriedPackets.{Carried, says_certified}
-use Rattle.urb_names.specs.Names.{has_name, same_name}
-use Rattle.urb_names.specs.LabelsAndContents.{Content, Label, Limits}
-use Rattle.urb_names.specs.Nodes.{majority_passes}
-use Rattle.urb_names.specs.Pairs.{message_of}
-use Rattle.urb_names.specs.declared.flags.Flags.{Flags}
-use Rattle.urb_stable.specs.Records.{cert, pend}
-use Rattle.urb_stable.specs.declared.record.Record.TheVariants.{Cert, Pend, PendCert}
 use Rattle.urb_node.proofs.ShownNodes.{acked-with}
 use Rattle.urb_node.specs.declared.answer.Answer.TheVariants.{Again, Answered, Noted}
-use Rattle.urb_node.specs.declared.cause.Cause.{Cause}
-use Rattle.urb_node.specs.Part.{Node, packet_from}
-use Rattle.urb_node.specs.Replies.{Reply, Same, packets_in}
-use Rattle.urb_node.specs.Steps.{answers, answers_of, arrives, counts, drafts, hears, reply_to}
-use Rattle.urb_node.specs.Steps.{says_heard, takes}
+use Rattle.urb_node.specs.Replies.{packets_in}
+use Rattle.urb_node.specs.Steps.{answers_of, says_heard}
 
 -- ---- the packets that an arrival returns
 

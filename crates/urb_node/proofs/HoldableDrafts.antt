@@ -1,41 +1,28 @@
 -- The drafts that a ready node can hold: their records are next, and there is space for them.
-use Rattle.std.proofs.Common.{◌≡◌, ℕ, suc, ◌+◌, ◌*◌, ◌<◌, ◌≤◌, ◌<◌, Bool, true, false, not, ◌==◌}
-use Rattle.std.proofs.Common.{nat_lt, List, [], ◌∷◌, length, map, Option, Some, None, refl, sym, ap}
-use Rattle.std.proofs.Common.{ap₂, ◌∙◌, subst, arith, eq-eqb, lt-ltb, le-ltb, Fits, w32}
-use Rattle.std.specs.Prelude.{if◌then◌else◌, is_some, nat_le, option_map}
+use Rattle.urb_node.proofs.Common.{Bool, Carried, Cause, Content, Delivery, Entry, Fits, Flags}
+use Rattle.urb_node.proofs.Common.{ForSome, HasRoom, Held, IsDelivery, IsDrafted, IsHeld, IsNext}
+use Rattle.urb_node.proofs.Common.{IsNextHeld, IsNextIn, IsPendingSet, Label, Limits, List}
+use Rattle.urb_node.proofs.Common.{MAX_PAYLOAD, MayArrive, Memory, None, Option, Pend, PendCert}
+use Rattle.urb_node.proofs.Common.{PendingSet, Some, Wants, [], and_from, and_parts, ap, ap₂, arith}
+use Rattle.urb_node.proofs.Common.{arrive_outcome, certified_outcome, cond-false, cond-true}
+use Rattle.urb_node.proofs.Common.{counted_outcome, eq-eqb, false, false≢true, has_name, heard_of}
+use Rattle.urb_node.proofs.Common.{hearing, if◌then◌else◌, is_majority, is_rising, is_some, le-ltb}
+use Rattle.urb_node.proofs.Common.{length, list_all, lt-ltb, map, memory_of, message_of, name}
+use Rattle.urb_node.proofs.Common.{name_given, name_lt, names, nat_le, nat_lt, next_number, not}
+use Rattle.urb_node.proofs.Common.{numbered_outcome, option_map, or_left, or_right, own, own_of}
+use Rattle.urb_node.proofs.Common.{packet_from, packets_of, part_of, pending_outcome, refl}
+use Rattle.urb_node.proofs.Common.{same_name, same_name-same, says_certified, submit_outcome, subst}
+use Rattle.urb_node.proofs.Common.{suc, sym, to_others, true, w32, ℕ, ◌*◌, ◌+◌, ◌<◌, ◌==◌, ◌∙◌, ◌∷◌}
+use Rattle.urb_node.proofs.Common.{◌≡◌, ◌≤◌}
 use Rattle.std.proofs.lemmas.List.{length-map}
-use Rattle.std.specs.List.{list_all}
-use Rattle.std.specs.Option.{ForSome}
-use Rattle.std.proofs.lemmas.Bool.{and_from, and_parts, cond-false, cond-true, false≢true, le-leb}
-use Rattle.std.proofs.lemmas.Bool.{or_left, or_right}
+use Rattle.std.proofs.lemmas.Bool.{le-leb}
 use Rattle.std.proofs.lemmas.Nat.{mul-le}
-use Rattle.urb_names.specs.LabelsAndContents.{Limits, Label, Content}
-use Rattle.urb_names.specs.Names.{has_name, name, names, name_lt, same_name}
-use Rattle.urb_names.specs.Nodes.{is_majority, is_node}
-use Rattle.urb_names.specs.CarriedPackets.{Carried, says_certified, to_others}
-use Rattle.urb_names.specs.declared.flags.Flags.{Flags}
-use Rattle.urb_names.specs.RisingLists.{is_rising}
-use Rattle.urb_names.specs.Release.{part_of}
-use Rattle.urb_names.specs.Pairs.{message_of, next_number, own}
-use Rattle.urb_names.proofs.SameNames.{same_name-same}
-use Rattle.urb_names.specs.declared.limits.TheConstants.{MAX_CAP, MAX_NODES, MAX_PAYLOAD}
-use Rattle.urb_pending.specs.PendingSet.{PendingSet, IsPendingSet, is_within, name_given}
+use Rattle.urb_names.specs.Nodes.{is_node}
+use Rattle.urb_names.specs.declared.limits.TheConstants.{MAX_CAP, MAX_NODES}
+use Rattle.urb_pending.specs.PendingSet.{is_within}
 use Rattle.urb_pending.proofs.PairLimits.{bounded, length_bounded}
-use Rattle.urb_fifo.specs.Delivery.{Delivery, IsDelivery, IsNameOf}
-use Rattle.urb_stable.specs.Entries.{Entry}
-use Rattle.urb_stable.specs.declared.record.Record.TheVariants.{Pend, PendCert}
-use Rattle.urb_node.specs.declared.held.Held.{Held}
-use Rattle.urb_node.specs.LayerFields.{memory_of}
-use Rattle.urb_node.specs.internal.HeldLayers.{HasRoom, IsDrafted, IsHeld, IsNextHeld, IsNextIn}
-use Rattle.urb_node.specs.RecordAdmission.{IsNext, MayArrive}
-use Rattle.urb_node.specs.internal.Outcomes.{Wants, arrive_outcome, certified_outcome}
-use Rattle.urb_node.specs.internal.Outcomes.{counted_outcome, hearing, numbered_outcome}
-use Rattle.urb_node.specs.internal.Outcomes.{pending_outcome, own_of, submit_outcome}
-use Rattle.urb_node.specs.Steps.{heard_of, packets_of}
-use Rattle.urb_node.specs.NodeMemories.{Memory}
+use Rattle.urb_fifo.specs.Delivery.{IsNameOf}
 use Rattle.urb_node.proofs.NextRecords.{arrival-next, next_own-fresh, submit-next}
-use Rattle.urb_node.specs.Part.{packet_from}
-use Rattle.urb_node.specs.declared.cause.Cause.{Cause}
 
 -- a pending record, certified at once or not
 abbrev pub pending_entry : Bool → Label → Content → Entry

@@ -1,33 +1,17 @@
 -- What an image says about a memory, with and without a doubtful record.
-use Rattle.std.proofs.Common.{◌≡◌, ◌∙◌, ◌≤◌, Bool, List, None, Option, Some, [], ap, ap₂, arith}
-use Rattle.std.proofs.Common.{false, length, refl, subst, suc, sym, true, ℕ, ◌&&◌, ◌+◌, ◌++◌, ◌==◌}
-use Rattle.std.proofs.Common.{add-one, lt-ltb, nat_lt, ⊎_elim, ◌||◌, ◌∷◌}
+use Rattle.urb_node.proofs.Common.{Bool, Cert, Content, Entry, ForSome, Held, IsDelivery, IsHeld}
+use Rattle.urb_node.proofs.Common.{IsNextHeld, IsNextIn, IsOtherThan, IsVerdict, Label, Limits}
+use Rattle.urb_node.proofs.Common.{List, Memory, Neither, None, Option, Pend, PendCert, SaysWith}
+use Rattle.urb_node.proofs.Common.{Some, [], add-one, and_from, and_parts, ap, ap₂, arith, cert}
+use Rattle.urb_node.proofs.Common.{certified_by, delivered_by, false, false≢true, has_name}
+use Rattle.urb_node.proofs.Common.{has_pair, has_pair-inserted, in_range, inserted, length}
+use Rattle.urb_node.proofs.Common.{list_all, list_any-append, log, lt-ltb, memory_of, name_of}
+use Rattle.urb_node.proofs.Common.{nat_lt, pairs_with, pend, refl, same_list, same_message}
+use Rattle.urb_node.proofs.Common.{same_name, same_name-true, same_names, same_pairs, subst, suc}
+use Rattle.urb_node.proofs.Common.{sym, tells, true, with_record, ℕ, ⊎_elim, ◌&&◌, ◌++◌, ◌+◌, ◌==◌}
+use Rattle.urb_node.proofs.Common.{◌||◌, ◌∙◌, ◌∷◌, ◌≡◌, ◌≤◌}
 use Rattle.std.specs.Bool.{MatchBool}
-use Rattle.std.specs.List.{list_all}
-use Rattle.std.specs.Option.{ForSome}
-use Rattle.std.proofs.lemmas.Bool.{and_from, and_parts, false≢true, ltb-true}
-use Rattle.std.proofs.lemmas.List.Folds.{list_any-append}
-use Rattle.urb_names.specs.LabelsAndContents.{Content, Label, Limits}
-use Rattle.urb_names.specs.Names.{has_name, same_message, same_name}
-use Rattle.urb_names.specs.CyclicOrder.{inserted}
-use Rattle.urb_names.specs.Pairs.{has_pair}
-use Rattle.urb_names.proofs.OrderedPairs.{has_pair-inserted}
-use Rattle.urb_names.proofs.SameNames.{same_name-true}
-use Rattle.urb_fifo.specs.Delivery.{IsDelivery}
-use Rattle.urb_stable.specs.Entries.{Entry, name_of}
-use Rattle.urb_stable.specs.Fitting.{in_range}
-use Rattle.urb_stable.specs.DeliveredLogs.{log}
-use Rattle.urb_stable.specs.Records.{cert, pend}
-use Rattle.urb_stable.specs.declared.record.Record.TheVariants.{Cert, Pend, PendCert}
-use Rattle.urb_node.specs.declared.held.Held.{Held}
-use Rattle.urb_node.specs.declared.image_verdict.Verdict.TheVariants.{Neither}
-use Rattle.urb_node.specs.LayerFields.{memory_of}
-use Rattle.urb_node.specs.internal.HeldLayers.{IsHeld, IsNextHeld, IsNextIn}
-use Rattle.urb_node.specs.internal.ImageVerdicts.{certified_by, delivered_by, pairs_with}
-use Rattle.urb_node.specs.internal.ImageVerdicts.{IsOtherThan, IsVerdict, SaysWith}
-use Rattle.urb_node.specs.internal.LayerAdditions.{with_record}
-use Rattle.urb_node.specs.Steps.{same_list, same_names, same_pairs, tells}
-use Rattle.urb_node.specs.NodeMemories.{Memory}
+use Rattle.std.proofs.lemmas.Bool.{ltb-true}
 use Rattle.urb_node.proofs.JoinedLayers.{with-cases}
 use Rattle.urb_node.proofs.ShownNodes.{all_named, pairs-told}
 

@@ -1,24 +1,15 @@
 -- Certified names and logs: what an image says about them, given what its certificates release.
-use Rattle.std.proofs.Common.{◌≡◌, ◌∙◌, Bool, List, [], ap, ap₂, false, refl, reverse, subst, sym}
-use Rattle.std.proofs.Common.{true, map, ◌&&◌, ◌||◌, ◌∷◌}
+use Rattle.urb_node.proofs.Common.{Bool, Content, Delivery, Entry, IsDelivery, IsReleaseOf, Label}
+use Rattle.urb_node.proofs.Common.{List, [], and_from, and_parts, ap, ap₂, both_ways, cert, false}
+use Rattle.urb_node.proofs.Common.{false≢true, has_name, has_pair, is_rising, list_all, log, map}
+use Rattle.urb_node.proofs.Common.{name_lt, refl, reverse, same_list, same_message, same_name}
+use Rattle.urb_node.proofs.Common.{same_name-same, same_name-true, same_names, subst, sym, true}
+use Rattle.urb_node.proofs.Common.{◌&&◌, ◌||◌, ◌∙◌, ◌∷◌, ◌≡◌}
 use Rattle.std.specs.Bool.{Decides}
-use Rattle.std.specs.List.{list_all}
-use Rattle.std.proofs.lemmas.Bool.{and_from, and_parts, false≢true}
-use Rattle.urb_names.specs.LabelsAndContents.{Content, Label}
-use Rattle.urb_names.specs.Names.{has_name, name_lt, same_message, same_name}
-use Rattle.urb_names.specs.RisingLists.{is_rising}
-use Rattle.urb_names.specs.Pairs.{has_pair}
 use Rattle.urb_names.proofs.OrderedPairs.{rises-same, rising-rises}
 use Rattle.urb_names.proofs.CertificateReaches.{reversed-back, reversed-same}
-use Rattle.urb_names.proofs.SameNames.{same_name-same, same_name-true}
-use Rattle.urb_fifo.specs.Delivery.{Delivery, IsDelivery, IsReleaseOf}
-use Rattle.urb_stable.specs.Entries.{Entry}
-use Rattle.urb_stable.specs.DeliveredLogs.{log}
-use Rattle.urb_stable.specs.Records.{cert}
-use Rattle.urb_node.specs.Steps.{same_list, same_names}
 use Rattle.urb_node.proofs.ShownNodes.{all_named, from_named}
 use Rattle.urb_node.proofs.HoldableDrafts.{paired_rising}
-use Rattle.urb_names.proofs.TruthValues.{both_ways}
 
 -- ---- lists of names
 

@@ -1,23 +1,14 @@
 -- Records and pairs: what an image says about pairs, record by record.
-use Rattle.std.proofs.Common.{◌≡◌, ◌∙◌, Bool, List, None, Some, [], ap, false, refl, sym, true, ℕ}
-use Rattle.std.proofs.Common.{◌&&◌, ◌++◌, ◌∷◌, ◌||◌, ◌<◌, drop, length, reverse, slice_get, suc}
-use Rattle.std.proofs.Common.{add-one, take, zero, ◌+◌, ◌==◌}
-use Rattle.std.specs.List.{list_all}
-use Rattle.std.proofs.lemmas.Bool.{or_left}
+use Rattle.urb_node.proofs.Common.{Bool, Cert, Content, Entry, Label, List, None, Pend, PendCert}
+use Rattle.urb_node.proofs.Common.{Some, [], acked, add-one, ap, cert, cert-append, counted_with}
+use Rattle.urb_node.proofs.Common.{drop, false, has_name, has_pair, length, list_all}
+use Rattle.urb_node.proofs.Common.{list_any-append, or_left, pend, refl, reverse, same_message}
+use Rattle.urb_node.proofs.Common.{same_name, same_name-same, self_acks, slice_get, suc, sym, take}
+use Rattle.urb_node.proofs.Common.{true, zero, ℕ, ◌&&◌, ◌++◌, ◌+◌, ◌<◌, ◌==◌, ◌||◌, ◌∙◌, ◌∷◌, ◌≡◌}
 use Rattle.std.proofs.lemmas.List.{map-append, reverse-append, take-append-drop}
-use Rattle.std.proofs.lemmas.List.Folds.{list_all-append, list_any-append}
-use Rattle.urb_names.specs.Acknowledgements.{acked}
-use Rattle.urb_names.specs.LabelsAndContents.{Content, Label}
-use Rattle.urb_names.specs.Names.{has_name, same_message, same_name}
-use Rattle.urb_names.proofs.SameNames.{any_left, any_right, same_name-same}
-use Rattle.urb_names.specs.Pairs.{has_pair}
+use Rattle.std.proofs.lemmas.List.Folds.{list_all-append}
+use Rattle.urb_names.proofs.SameNames.{any_left, any_right}
 use Rattle.urb_names.proofs.Places.{drop_get, get_some}
-use Rattle.urb_stable.specs.Entries.{Entry}
-use Rattle.urb_stable.proofs.JoinedRecords.{cert-append}
-use Rattle.urb_stable.specs.Records.{cert, pend}
-use Rattle.urb_stable.specs.declared.record.Record.TheVariants.{Cert, Pend, PendCert}
-use Rattle.urb_node.specs.internal.LayerAdditions.{counted_with}
-use Rattle.urb_node.specs.Part.{self_acks}
 use Rattle.urb_node.proofs.ArrivalOutcomes.{counted-with}
 use Rattle.urb_node.proofs.ShownNodes.{acked-with}
 

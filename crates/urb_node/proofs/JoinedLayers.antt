@@ -1,38 +1,23 @@
 -- The layers of a node after one more record.
-use Rattle.std.proofs.Common.{◌≡◌, ℕ, suc, ◌+◌, ◌≤◌, Bool, true, false, cond, ◌&&◌, ◌||◌, List, []}
-use Rattle.std.proofs.Common.{◌∷◌, ◌++◌, length, Option, Some, None, is_some, refl, sym, ap, ◌∙◌}
-use Rattle.std.proofs.Common.{subst, arith, inl, inr, ◌⊎◌, ⊎_elim}
-use Rattle.std.specs.Prelude.{if◌then◌else◌}
-use Rattle.std.proofs.lemmas.Bool.{false≢true, or_left, or_right, or_cases, and_from, and_parts}
+use Rattle.urb_node.proofs.Common.{AckSet, Bool, Content, Delivery, Down, Entry, Fails, ForSome}
+use Rattle.urb_node.proofs.Common.{Held, Holding, IsHeld, IsNextHeld, Label, List, Memory, None}
+use Rattle.urb_node.proofs.Common.{Option, PendingSet, Resending, ShowsDown, Some, State, Storing}
+use Rattle.urb_node.proofs.Common.{WentDown, [], added, and_from, and_parts, any_insert, ap, arith}
+use Rattle.urb_node.proofs.Common.{certified_with, cond, fails, false, false≢true, has_name}
+use Rattle.urb_node.proofs.Common.{has_pair, has_pair-found, has_pair-inserted, if◌then◌else◌, inl}
+use Rattle.urb_node.proofs.Common.{inr, inserted, is_some, length, message_of, name_lt}
+use Rattle.urb_node.proofs.Common.{newly_released, or_cases, or_left, or_right, placed, prefix_len}
+use Rattle.urb_node.proofs.Common.{refl, same_message, same_message-same, same_name, same_name-same}
+use Rattle.urb_node.proofs.Common.{same_name-true, subst, suc, sym, true, view_in, ℕ, ⊎_elim, ◌&&◌}
+use Rattle.urb_node.proofs.Common.{◌++◌, ◌+◌, ◌||◌, ◌∙◌, ◌∷◌, ◌≡◌, ◌≤◌, ◌⊎◌}
 use Rattle.std.proofs.lemmas.List.Edits.{length-insert}
 use Rattle.std.proofs.lemmas.List.Sums.{prefix_len-le-length}
-use Rattle.std.specs.List.{prefix_len}
-use Rattle.std.specs.Option.{ForSome}
-use Rattle.urb_names.specs.LabelsAndContents.{Label, Content}
-use Rattle.urb_names.specs.Names.{has_name, name_lt, same_name, same_message}
-use Rattle.urb_names.specs.Pairs.{has_pair, message_of}
-use Rattle.urb_names.specs.CyclicOrder.{inserted}
-use Rattle.urb_names.specs.RisingLists.{placed, reserved_for}
-use Rattle.urb_names.proofs.FoundPairs.{has_pair-found, some_found}
-use Rattle.urb_names.proofs.ElementPlaces.{any_insert}
-use Rattle.urb_names.proofs.OrderedPairs.{has_pair-inserted}
-use Rattle.urb_names.proofs.SameNames.{same_name-same, same_name-true, same_message-same}
-use Rattle.urb_pending.specs.PendingSet.{PendingSet, added}
-use Rattle.urb_stubborn.specs.Resends.{Resending}
+use Rattle.urb_names.specs.RisingLists.{reserved_for}
+use Rattle.urb_names.proofs.FoundPairs.{some_found}
 use Rattle.urb_certified.specs.Certificates.{with_name}
-use Rattle.urb_majority.specs.Acks.{AckSet}
 use Rattle.urb_majority.specs.AckOutcomes.{certifying as acks_certifying}
-use Rattle.urb_fifo.specs.Delivery.{Delivery}
-use Rattle.urb_fifo.specs.NewReleases.{certifying as fifo_certifying, newly_released}
-use Rattle.urb_stable.specs.Entries.{Entry}
-use Rattle.urb_node.specs.declared.held.Held.{Held}
-use Rattle.urb_node.specs.internal.HeldLayers.{IsFallen, IsHeld, IsNextHeld}
-use Rattle.urb_node.specs.CallEffects.{Fails}
-use Rattle.urb_node.specs.Part.{State, Storing, Down}
-use Rattle.urb_node.specs.Replies.{WentDown}
-use Rattle.urb_node.specs.Steps.{fails}
-use Rattle.urb_node.specs.NodeMemories.{Memory, Holding, ShowsDown, view_in}
-use Rattle.urb_node.specs.internal.LayerAdditions.{certified_with}
+use Rattle.urb_fifo.specs.NewReleases.{certifying as fifo_certifying}
+use Rattle.urb_node.specs.internal.HeldLayers.{IsFallen}
 use Rattle.urb_node.proofs.MemoryChanges.{down-shows}
 
 -- ---- what is pending

@@ -1,30 +1,20 @@
 -- What a node's memory must say once one more record is stored.
-use Rattle.std.proofs.Common.{Bool, List, None, Option, Some, [], ap, ap₂, append-nil, arith, cond}
-use Rattle.std.proofs.Common.{false, length, length-append, refl, reverse, subst, suc, sym, true, ℕ}
-use Rattle.std.proofs.Common.{◌++◌, ◌+◌, ◌-◌, ◌==◌, ◌||◌, ◌∙◌, ◌∷◌, ◌≡◌}
+use Rattle.urb_node.proofs.Common.{Bool, Cause, Cert, Content, Entry, IsNext, KeepsOwn, Label}
+use Rattle.urb_node.proofs.Common.{Limits, List, Node, NodeView, None, Option, Pend, PendCert}
+use Rattle.urb_node.proofs.Common.{Ready, ShowsNode, Some, [], acked, acks_after, ap, append-nil}
+use Rattle.urb_node.proofs.Common.{ap₂, are_rising, arith, broadcast_after, cert, cert-append}
+use Rattle.urb_node.proofs.Common.{comes_up, cond, done, false, has_name, has_pair, heard_after}
+use Rattle.urb_node.proofs.Common.{heard_of, is_accepted, keeps_record, length, length-append, log}
+use Rattle.urb_node.proofs.Common.{name_of, own, own_acks, packets_of, pend, refl, released}
+use Rattle.urb_node.proofs.Common.{reverse, self_acks, subst, suc, sym, true, with_ack, with_heard}
+use Rattle.urb_node.proofs.Common.{ℕ, ◌++◌, ◌+◌, ◌-◌, ◌==◌, ◌||◌, ◌∙◌, ◌∷◌, ◌≡◌}
 use Rattle.urb_names.proofs.FoundPairs.{own-other, own-push}
-use Rattle.urb_names.specs.Acknowledgements.{acked, with_ack}
-use Rattle.urb_names.specs.CyclicOrder.{are_rising}
-use Rattle.urb_names.specs.Names.{has_name}
-use Rattle.urb_names.specs.LabelsAndContents.{Content, Label, Limits}
-use Rattle.urb_names.specs.Pairs.{has_pair, own}
-use Rattle.urb_names.specs.Release.{released}
 use Rattle.urb_node.proofs.NextRecords.{next-keeps}
 use Rattle.urb_node.proofs.ShownNodes.{shown-self, with-same}
-use Rattle.urb_node.specs.RecordAdmission.{IsNext}
-use Rattle.urb_node.specs.Part.{Node, Ready, own_acks, self_acks}
-use Rattle.urb_node.specs.NodeViews.{NodeView, ShowsNode}
-use Rattle.urb_node.specs.Steps.{acks_after, broadcast_after, comes_up, done, heard_after, heard_of}
-use Rattle.urb_node.specs.Steps.{is_accepted, keeps_record, packets_of, with_cause, with_heard}
-use Rattle.urb_stable.proofs.JoinedRecords.{cert-append, pend-append}
+use Rattle.urb_node.specs.Steps.{with_cause}
+use Rattle.urb_stable.proofs.JoinedRecords.{pend-append}
 use Rattle.urb_stable.proofs.LogGrowth.{released-joined}
 use Rattle.urb_stable.proofs.OwnRules.{keeps_own-push, names-joined, pairs-joined}
-use Rattle.urb_stable.specs.Entries.{Entry, name_of}
-use Rattle.urb_stable.specs.Fitting.{KeepsOwn}
-use Rattle.urb_stable.specs.DeliveredLogs.{log}
-use Rattle.urb_stable.specs.Records.{cert, pend}
-use Rattle.urb_stable.specs.declared.record.Record.TheVariants.{Cert, Pend, PendCert}
-use Rattle.urb_node.specs.declared.cause.Cause.{Cause}
 
 -- the memory `new` says what `view` said, and the record
 pub record SaysMore (view new : NodeView) (r : Entry) : Type 0 where

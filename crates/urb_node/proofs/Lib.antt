@@ -11,6 +11,7 @@
 -- `commit-says` (RecordOutcomes). The proofs use lemmas of urb_names (names, pairs,
 -- acknowledgements), urb_stable (records and logs), urb_window and urb_pending. The crates urb_world
 -- and urb_group use ShownNodes, Openings, RestartReplies, ImageNames, FinalAnswers and SubmitCases.
+mod Common
 pub mod ShownNodes
 pub mod NextRecords
 pub mod MemoryChanges

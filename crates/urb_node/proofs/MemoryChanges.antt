@@ -1,21 +1,14 @@
 -- What a node's memory shows after a draft, an acknowledgement, a tick and a crash.
-use Rattle.std.proofs.Common.{Bool, List, Option, [], ap, ap₂, false, filter, flat_map, not, refl}
-use Rattle.std.proofs.Common.{subst, sym, true, ℕ, ◌∙◌, ◌≡◌}
-use Rattle.std.proofs.Math.Path.{fun_ext}
+use Rattle.urb_node.proofs.Common.{Bool, Carried, Cause, Content, Down, Entry, Label, Limits, List}
+use Rattle.urb_node.proofs.Common.{Node, NodeView, Option, Sent, ShowsNode, Storing, [], acked, ap}
+use Rattle.urb_node.proofs.Common.{ap₂, are_rising, cert, drafts, false, filter, flat_map, fun_ext}
+use Rattle.urb_node.proofs.Common.{goes_down, has_name, not, refl, resends, subst, sym, true}
+use Rattle.urb_node.proofs.Common.{with_ack, ℕ, ◌∙◌, ◌≡◌}
 use Rattle.std.specs.List.{list_any}
-use Rattle.urb_names.specs.Acknowledgements.{acked, with_ack}
-use Rattle.urb_names.specs.CarriedPackets.{Carried, due_of, others, packets_to, to_unheard}
-use Rattle.urb_names.specs.CyclicOrder.{are_rising, last_name, resent}
-use Rattle.urb_names.specs.Names.{has_name}
-use Rattle.urb_names.specs.LabelsAndContents.{Content, Label, Limits}
+use Rattle.urb_names.specs.CarriedPackets.{due_of, others, packets_to, to_unheard}
+use Rattle.urb_names.specs.CyclicOrder.{last_name, resent}
 use Rattle.urb_node.proofs.ShownNodes.{shown-rising, with-same}
-use Rattle.urb_node.specs.Part.{Down, Node, Storing}
-use Rattle.urb_node.specs.Replies.{Sent}
-use Rattle.urb_node.specs.NodeViews.{NodeView, ShowsNode}
-use Rattle.urb_node.specs.Steps.{doubt, drafts, due, goes_down, resends}
-use Rattle.urb_stable.specs.Entries.{Entry}
-use Rattle.urb_stable.specs.Records.{cert}
-use Rattle.urb_node.specs.declared.cause.Cause.{Cause}
+use Rattle.urb_node.specs.Steps.{doubt, due}
 
 -- The memory holds this draft and otherwise what it held.
 pub draft-shows : (size : Limits) (p : ℕ) (view new : NodeView) (node : Node) (r : Entry)

@@ -1,25 +1,17 @@
 -- Which drafts are next: of a submit, of an arrival, and of a certificate; and an image's records.
-use Rattle.std.proofs.Common.{Bool, List, None, Some, [], ap, append_assoc, arith, cond, eq-eqb}
-use Rattle.std.proofs.Common.{eqb-true, false, inr, is_none, is_some, length, lt-ltb, map, nat_lt}
-use Rattle.std.proofs.Common.{not, refl, subst, suc, sym, true, ℕ, ⊎_elim, ◌&&◌, ◌||◌, ◌++◌, ◌<◌}
-use Rattle.std.proofs.Common.{◌==◌, ◌∙◌, ◌∷◌, ◌≡◌, ◌≤◌}
-use Rattle.std.proofs.lemmas.Bool.{and_from, cases_Bool, cond-false, cond-true, false≢true}
+use Rattle.urb_node.proofs.Common.{Bool, Cert, Content, Entry, IsNext, KeepsOwn, Label, Limits}
+use Rattle.urb_node.proofs.Common.{List, MayArrive, Node, NodeView, None, Pend, PendCert, ShowsNode}
+use Rattle.urb_node.proofs.Common.{Some, [], and_from, ap, append_assoc, are_rising, arith}
+use Rattle.urb_node.proofs.Common.{cases_Bool, cert, cond, cond-false, cond-true, eq-eqb, eqb-true}
+use Rattle.urb_node.proofs.Common.{false, false≢true, has_name, in_range, inr, is_none, is_some}
+use Rattle.urb_node.proofs.Common.{length, lt-ltb, map, message_of, name, names, nat_lt}
+use Rattle.urb_node.proofs.Common.{next_number, not, own, part_of, pend, refl, same_name, subst}
+use Rattle.urb_node.proofs.Common.{suc, sym, true, ℕ, ⊎_elim, ◌&&◌, ◌++◌, ◌<◌, ◌==◌, ◌||◌, ◌∙◌, ◌∷◌}
+use Rattle.urb_node.proofs.Common.{◌≡◌, ◌≤◌}
 use Rattle.urb_names.proofs.FoundPairs.{no_pair}
 use Rattle.urb_names.proofs.LogRows.{has-row-not, has_name-part}
-use Rattle.urb_names.specs.CyclicOrder.{are_rising}
-use Rattle.urb_names.specs.Names.{has_name, name, names, same_name}
-use Rattle.urb_names.specs.LabelsAndContents.{Content, Label, Limits}
-use Rattle.urb_names.specs.Pairs.{message_of, next_number, own}
-use Rattle.urb_names.specs.Release.{part_of}
 use Rattle.urb_node.proofs.ShownNodes.{shown-broadcast, shown-found}
-use Rattle.urb_node.specs.RecordAdmission.{IsNext, MayArrive}
-use Rattle.urb_node.specs.Part.{Node}
-use Rattle.urb_node.specs.NodeViews.{NodeView, ShowsNode}
-use Rattle.urb_stable.specs.Entries.{Entry}
-use Rattle.urb_stable.specs.Fitting.{KeepsOwn, in_range, is_in_turn, is_new_to, is_next_own}
-use Rattle.urb_stable.specs.Fitting.{keeps_a, keeps_b}
-use Rattle.urb_stable.specs.Records.{cert, pend}
-use Rattle.urb_stable.specs.declared.record.Record.TheVariants.{Cert, Pend, PendCert}
+use Rattle.urb_stable.specs.Fitting.{is_in_turn, is_new_to, is_next_own, keeps_a, keeps_b}
 use Rattle.urb_node.proofs.ImageComparisons.{in_range_is}
 
 -- ---- new names

@@ -1,19 +1,11 @@
 -- A node that stops: a record that it holds is in doubt; a crash is like a failed store.
-use Rattle.std.proofs.Common.{◌≡◌, None, Some, refl, subst, sym}
-use Rattle.std.specs.Prelude.{if◌then◌else◌}
-use Rattle.std.specs.Option.{ForSome}
-use Rattle.urb_names.specs.declared.refusal.Refusal.TheVariants as refusal
-use Rattle.urb_stable.specs.Entries.{Entry}
-use Rattle.urb_node.specs.declared.held.Held.{Held}
-use Rattle.urb_node.specs.internal.HeldLayers.{IsNextHeld}
-use Rattle.urb_node.specs.CallEffects.{Crashes, Fails}
-use Rattle.urb_node.specs.Part.{Down, Ready, State}
-use Rattle.urb_node.specs.Replies.{WentDown}
-use Rattle.urb_node.specs.Steps.{fails, goes_down, is_down, refuses}
-use Rattle.urb_node.specs.NodeMemories.{Fallen, Holding, Memory, ShowsDown, ShowsReady, ShowsStoring}
-use Rattle.urb_node.specs.NodeMemories.{view_in}
+use Rattle.urb_node.proofs.Common.{Crashes, Down, Entry, Fails, Fallen, ForSome, Held, Holding}
+use Rattle.urb_node.proofs.Common.{IsNextHeld, Memory, None, Ready, ShowsDown, ShowsReady}
+use Rattle.urb_node.proofs.Common.{ShowsStoring, Some, State, WentDown, fails, goes_down}
+use Rattle.urb_node.proofs.Common.{if◌then◌else◌, is_down, refl, refuses, subst, sym, view_in, ◌≡◌}
 use Rattle.urb_node.proofs.MemoryChanges.{down-shows}
 use Rattle.urb_node.proofs.JoinedLayers.{forgetful}
+use Rattle.urb_names.specs.declared.refusal.Refusal.TheVariants as refusal
 
 -- a record that is next stays next when it becomes doubtful
 pub doubtful-next : {A : Type 0} (h : Held A) (entry : Entry) → IsNextHeld h entry

@@ -1,20 +1,11 @@
 -- A node opened from its image.
-use Rattle.std.proofs.Common.{List, None, [], ap, false, length, refl, subst, true, ℕ, ◌++◌, ◌∷◌}
-use Rattle.std.proofs.Common.{◌≡◌}
-use Rattle.urb_names.specs.Acknowledgements.{acked}
-use Rattle.urb_names.specs.CyclicOrder.{are_rising}
-use Rattle.urb_names.specs.Names.{has_name}
-use Rattle.urb_names.specs.LabelsAndContents.{Content, Label, Limits}
-use Rattle.urb_names.specs.Pairs.{has_pair, own}
+use Rattle.urb_node.proofs.Common.{Content, Entry, IsNext, KeepsOwn, Label, Limits, List, NodeView}
+use Rattle.urb_node.proofs.Common.{None, Ready, ShowsNode, [], acked, ap, are_rising, cert, false}
+use Rattle.urb_node.proofs.Common.{has_name, has_pair, length, log, opened_node, own, own_acks}
+use Rattle.urb_node.proofs.Common.{pend, refl, self_acks, subst, true, ℕ, ◌++◌, ◌∷◌, ◌≡◌}
 use Rattle.urb_node.proofs.JoinedMemory.{SaysMore, own-after, up-joined-shows}
 use Rattle.urb_node.proofs.NextRecords.{keeps-next, own-parts}
-use Rattle.urb_node.specs.RecordAdmission.{IsNext}
-use Rattle.urb_node.specs.Part.{Ready, opened_node, own_acks, self_acks}
-use Rattle.urb_node.specs.NodeViews.{NodeView, ShowsNode, no_view}
-use Rattle.urb_stable.specs.Entries.{Entry}
-use Rattle.urb_stable.specs.Fitting.{KeepsOwn}
-use Rattle.urb_stable.specs.DeliveredLogs.{log}
-use Rattle.urb_stable.specs.Records.{cert, pend}
+use Rattle.urb_node.specs.NodeViews.{no_view}
 
 -- to show the node opened from an image, a memory only has to say what it holds of the image
 pub shows-opened_node : (size : Limits) (p : ℕ) (view : NodeView) (records : List Entry)

@@ -1,10 +1,6 @@
 -- The definition's outcome for a node and the outcome in the node's memory say the same.
-use Rattle.std.proofs.Common.{◌≡◌, suc}
-use Rattle.urb_stable.specs.Entries.{name_of}
-use Rattle.urb_node.specs.Part.{Node}
-use Rattle.urb_node.specs.Replies.{Reply, Drafted, Same, Refused}
-use Rattle.urb_node.specs.NodeMemories.{ShowsReady, ShowsStoring}
-use Rattle.urb_node.specs.internal.Outcomes.{Outcome, Answers, Refuses, Wants}
+use Rattle.urb_node.proofs.Common.{Answers, Drafted, Node, Outcome, Refused, Refuses, Reply, Same}
+use Rattle.urb_node.proofs.Common.{ShowsReady, ShowsStoring, Wants, name_of, suc, ◌≡◌}
 
 -- The reply is the answer, and the memory shows the node after it. Or the reply is the refusal. Or
 -- it is a draft of the record that is wanted, and the memory with that record shows the node after

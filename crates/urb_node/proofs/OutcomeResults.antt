@@ -1,33 +1,22 @@
 -- From the outcome in a node's memory to the result of its call.
-use Rattle.std.proofs.Common.{◌≡◌, ℕ, suc, true, List, Result, Ok, Err, refl, sym, ap, ◌∙◌, subst}
-use Rattle.std.proofs.Common.{ControlFlow, Break, Continue}
+use Rattle.urb_node.proofs.Common.{Answer, Answers, Break, Carried, Content, Continue, ControlFlow}
+use Rattle.urb_node.proofs.Common.{Drafted, Err, Finds, Held, IfOk, IfSome, IsHeld, Label, LeadsTo}
+use Rattle.urb_node.proofs.Common.{List, MayGrow, Memory, NoMemory, Node, Ok, OnErr, OnOk, Outcome}
+use Rattle.urb_node.proofs.Common.{Refusal, Refused, Refuses, Reply, Resending, Result, Sent}
+use Rattle.urb_node.proofs.Common.{ShowsReady, State, Ticks, Wanted, Wants, ap, are_rising}
+use Rattle.urb_node.proofs.Common.{has_name, if◌then◌else◌, is_down, is_storing, name_of}
+use Rattle.urb_node.proofs.Common.{ready_view, refl, refuses, resends, step_from, subst, suc, sym}
+use Rattle.urb_node.proofs.Common.{tick_packets, true, ℕ, ◌∙◌, ◌≡◌}
 use Rattle.std.specs.ControlFlow.{continue_value}
-use Rattle.std.specs.Prelude.{IfOk, IfSome, OnOk, OnErr, if◌then◌else◌}
-use Rattle.urb_names.specs.LabelsAndContents.{Label, Content}
-use Rattle.urb_names.specs.CarriedPackets.{Carried}
-use Rattle.urb_names.specs.CyclicOrder.{are_rising}
-use Rattle.urb_names.specs.Names.{has_name}
-use Rattle.urb_names.specs.declared.refusal.NoMemory.{NoMemory}
-use Rattle.urb_names.specs.declared.refusal.Refusal.{Refusal}
-use Rattle.urb_names.specs.declared.refusal.Refusal.TheVariants as refusal
-use Rattle.urb_stubborn.specs.Resends.{Resending, tick_packets, ticked}
-use Rattle.urb_stable.specs.Entries.{name_of}
-use Rattle.urb_node.specs.declared.answer.Answer.{Answer}
-use Rattle.urb_node.specs.declared.answer.Answer.TheVariants as answer
-use Rattle.urb_node.specs.declared.call_outcomes.Wanted.{Wanted}
-use Rattle.urb_node.specs.declared.held.Held.{Held}
-use Rattle.urb_node.specs.Part.{Node, State}
-use Rattle.urb_node.specs.Replies.{Reply, Drafted, Sent, Refused}
-use Rattle.urb_node.specs.Steps.{is_down, is_storing, refuses, resends, ticks}
-use Rattle.urb_node.specs.NodeMemories.{Memory, ShowsReady, IsSameNode}
-use Rattle.urb_node.specs.internal.ReadyViews.{ready_view}
-use Rattle.urb_node.specs.internal.HeldLayers.{IsHeld}
-use Rattle.urb_node.specs.internal.Outcomes.{Outcome, Answers, Refuses, Wants}
-use Rattle.urb_node.specs.internal.OutcomeSteps.{Finds, IsRefusalOf, IsWanted, TakesMemory}
-use Rattle.urb_node.specs.internal.OutcomeSteps.{step_from}
-use Rattle.urb_node.specs.CallEffects.{IsRefusedAs, LeadsTo, MayGrow, Ticks}
+use Rattle.urb_stubborn.specs.Resends.{ticked}
+use Rattle.urb_node.specs.Steps.{ticks}
+use Rattle.urb_node.specs.NodeMemories.{IsSameNode}
+use Rattle.urb_node.specs.internal.OutcomeSteps.{IsRefusalOf, IsWanted, TakesMemory}
+use Rattle.urb_node.specs.CallEffects.{IsRefusedAs}
 use Rattle.urb_node.proofs.MemoryChanges.{tick-shows}
 use Rattle.urb_node.proofs.OutcomeAgreement.{Says}
+use Rattle.urb_names.specs.declared.refusal.Refusal.TheVariants as refusal
+use Rattle.urb_node.specs.declared.answer.Answer.TheVariants as answer
 
 -- an outcome that allocates memory has a reply that may be refused for it
 grows : (told : Reply × Node) (outcome : Outcome) → Says told outcome → TakesMemory outcome

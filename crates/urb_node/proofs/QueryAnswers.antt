@@ -1,13 +1,8 @@
 -- What a memory answers about a node's records is the definition's for every node that it shows.
-use Rattle.std.proofs.Common.{◌≡◌, ◌∙◌, Bool, List, ap, length, sym, true, ℕ, Option}
-use Rattle.urb_names.specs.Names.{has_name}
-use Rattle.urb_names.specs.LabelsAndContents.{Content, Label}
-use Rattle.urb_names.specs.CyclicOrder.{are_rising}
-use Rattle.urb_names.specs.Pairs.{has_pair, message_of, next_number, own}
+use Rattle.urb_node.proofs.Common.{Bool, Content, Label, List, Memory, Option, ShowsIn, State}
+use Rattle.urb_node.proofs.Common.{TellsNext, ap, are_rising, has_name, has_pair, length}
+use Rattle.urb_node.proofs.Common.{message_of, next_number, own, sym, true, view_in, ℕ, ◌∙◌, ◌≡◌}
 use Rattle.urb_node.specs.CallEffects.{CountsOwn, FindsMessage, Holds, IsCertified, TellsLog}
-use Rattle.urb_node.specs.CallEffects.{TellsNext}
-use Rattle.urb_node.specs.Part.{State}
-use Rattle.urb_node.specs.NodeMemories.{Memory, ShowsIn, view_in}
 use Rattle.urb_node.proofs.ShownNodes.{shown-broadcast, shown-found}
 
 -- a memory has a pair exactly if the pair is pending at each node that it shows

@@ -1,11 +1,11 @@
 -- What the layers of a node hold once they have read the first records of its image.
-use Rattle.std.proofs.Common.{Bool, List, None, [], ap, append-nil, append_assoc, cond, false, refl}
-use Rattle.std.proofs.Common.{subst, sym, true, ℕ, ◌&&◌, ◌++◌, ◌==◌, ◌||◌, ◌∙◌, ◌∷◌, ◌≡◌}
-use Rattle.urb_fifo.specs.Delivery.{IsDelivery}
-use Rattle.urb_names.specs.Acknowledgements.{acked}
-use Rattle.urb_names.specs.CyclicOrder.{inserted}
-use Rattle.urb_names.specs.Names.{has_name, name_lt, same_name}
-use Rattle.urb_names.specs.LabelsAndContents.{Content, Label, Limits}
+use Rattle.urb_node.proofs.Common.{Bool, Cert, Content, Entry, Held, IsDelivery, IsHeld, IsNextHeld}
+use Rattle.urb_node.proofs.Common.{IsPendingSet, KeepsOwn, Label, Limits, List, Memory, None, Pend}
+use Rattle.urb_node.proofs.Common.{PendCert, Ready, ShowsNode, ShowsReady, [], acked, ap}
+use Rattle.urb_node.proofs.Common.{append-nil, append_assoc, cert, cond, false, has_name, inserted}
+use Rattle.urb_node.proofs.Common.{memory_of, name_lt, opened_node, ready_view, refl, same_name}
+use Rattle.urb_node.proofs.Common.{self_acks, subst, sym, true, with_record, ℕ, ◌&&◌, ◌++◌, ◌==◌}
+use Rattle.urb_node.proofs.Common.{◌||◌, ◌∙◌, ◌∷◌, ◌≡◌}
 use Rattle.urb_node.proofs.ArrivalOutcomes.{counted-with}
 use Rattle.urb_node.proofs.ReceiptResults.{first_held, released_held}
 use Rattle.urb_node.proofs.JoinedMemory.{SaysMore}
@@ -13,19 +13,7 @@ use Rattle.urb_node.proofs.NextRecords.{keeps-next, own-parts}
 use Rattle.urb_node.proofs.Openings.{nothing-shows, opened-more}
 use Rattle.urb_node.proofs.RecordOutcomes.{record-more, same_limits}
 use Rattle.urb_node.proofs.ShownNodes.{acked-with, shown-self}
-use Rattle.urb_node.specs.LayerFields.{memory_of}
-use Rattle.urb_node.specs.internal.HeldLayers.{IsHeld, IsNextHeld}
-use Rattle.urb_node.specs.internal.LayerAdditions.{with_record}
-use Rattle.urb_node.specs.Part.{Ready, opened_node, self_acks}
-use Rattle.urb_node.specs.NodeViews.{ShowsNode}
-use Rattle.urb_node.specs.NodeMemories.{Memory, ShowsReady, new_memory}
-use Rattle.urb_node.specs.internal.ReadyViews.{ready_view}
-use Rattle.urb_node.specs.declared.held.Held.{Held}
-use Rattle.urb_pending.specs.PendingSet.{IsPendingSet}
-use Rattle.urb_stable.specs.Entries.{Entry}
-use Rattle.urb_stable.specs.Fitting.{KeepsOwn}
-use Rattle.urb_stable.specs.Records.{cert}
-use Rattle.urb_stable.specs.declared.record.Record.TheVariants.{Cert, Pend, PendCert}
+use Rattle.urb_node.specs.NodeMemories.{new_memory}
 
 -- the layers are this node's once it has read the records before, and these records are still to
 -- read

@@ -1,28 +1,17 @@
 -- A receipt of the held draft: after it, the layers hold what the definition says.
-use Rattle.std.proofs.Common.{◌≡◌, ℕ, suc, ◌+◌, ◌-◌, true, false, not, ◌&&◌, List, length, Option}
-use Rattle.std.proofs.Common.{None, is_none, is_some, Ok, sym, ap, ◌∙◌, subst, arith, ⊎_elim}
-use Rattle.std.proofs.lemmas.Bool.{and_parts, cases_Bool, false≢true, not-true}
-use Rattle.urb_names.specs.Names.{has_name}
-use Rattle.urb_names.specs.LabelsAndContents.{Label}
-use Rattle.urb_names.specs.CarriedPackets.{Carried}
-use Rattle.urb_names.specs.Pairs.{message_of}
+use Rattle.urb_node.proofs.Common.{Carried, Cause, Cert, Confirms, Done, Entry, Held, Holding}
+use Rattle.urb_node.proofs.Common.{IsDelivery, IsDrafted, IsHeld, IsNextHeld, IsPendingSet, Label}
+use Rattle.urb_node.proofs.Common.{List, Memory, None, Ok, Option, Pend, PendCert, ShowsReady}
+use Rattle.urb_node.proofs.Common.{and_parts, ap, arith, cases_Bool, commits, false, false≢true}
+use Rattle.urb_node.proofs.Common.{has_name, in_range, is_accepted, is_none, is_some, length}
+use Rattle.urb_node.proofs.Common.{memory_of, message_of, name_of, not, subst, suc, sym, true}
+use Rattle.urb_node.proofs.Common.{with_record, ℕ, ⊎_elim, ◌&&◌, ◌+◌, ◌-◌, ◌∙◌, ◌≡◌}
+use Rattle.std.proofs.lemmas.Bool.{not-true}
 use Rattle.urb_names.proofs.FoundPairs.{none_found}
-use Rattle.urb_pending.specs.PendingSet.{IsPendingSet}
-use Rattle.urb_fifo.specs.Delivery.{IsDelivery}
-use Rattle.urb_stable.specs.Entries.{Entry, name_of}
-use Rattle.urb_stable.specs.Fitting.{in_range}
 use Rattle.urb_stable.specs.PlacedRecords.{Placed}
-use Rattle.urb_stable.specs.declared.record.Record.TheVariants.{Pend, PendCert, Cert}
-use Rattle.urb_node.specs.declared.held.Held.{Held}
-use Rattle.urb_node.specs.LayerFields.{memory_of}
-use Rattle.urb_node.specs.internal.HeldLayers.{IsDrafted, IsHeld, IsNextHeld}
-use Rattle.urb_node.specs.internal.LayerAdditions.{with_record}
-use Rattle.urb_node.specs.CallEffects.{Confirms}
-use Rattle.urb_node.specs.Replies.{Done, Stored}
-use Rattle.urb_node.specs.Steps.{commits, is_accepted}
-use Rattle.urb_node.specs.NodeMemories.{Memory, Holding, ShowsReady, draft_of}
+use Rattle.urb_node.specs.Replies.{Stored}
+use Rattle.urb_node.specs.NodeMemories.{draft_of}
 use Rattle.urb_node.proofs.RecordOutcomes.{IsFirst, IsReleased, commit-says, same_limits, told_of}
-use Rattle.urb_node.specs.declared.cause.Cause.{Cause}
 
 -- a certified name is pending, so a name that is not pending is not certified
 pub first_held : {A : Type 0} (h : Held A) (r : Entry) → IsHeld h → IsNextHeld h r

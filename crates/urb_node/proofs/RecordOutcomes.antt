@@ -1,39 +1,26 @@
 -- What a memory holds once its record is stored is the definition's for every node that it shows.
-use Rattle.std.proofs.Common.{◌≡◌, ℕ, suc, ◌-◌, Bool, true, false, not, ◌&&◌, ◌||◌, ◌==◌, List, ◌∷◌}
-use Rattle.std.proofs.Common.{◌++◌, length, filter, Option, Some, None, refl, sym, ap, ap₂, ◌∙◌}
-use Rattle.std.proofs.Common.{subst, eq-eqb}
-use Rattle.std.specs.Prelude.{if◌then◌else◌}
-use Rattle.std.proofs.lemmas.Bool.{and_from, cond-true}
-use Rattle.urb_names.specs.LabelsAndContents.{Label, Limits}
-use Rattle.urb_names.specs.Names.{has_name, name_lt, same_name, same_message}
-use Rattle.urb_names.specs.Pairs.{has_pair}
-use Rattle.urb_names.specs.CyclicOrder.{are_rising}
-use Rattle.urb_names.specs.Acknowledgements.{acked, with_ack}
-use Rattle.urb_names.specs.RisingLists.{placed}
-use Rattle.urb_names.specs.Release.{beginning, released}
-use Rattle.urb_names.proofs.OrderedPairs.{has_pair-inserted}
-use Rattle.urb_names.proofs.ElementPlaces.{any_insert}
-use Rattle.urb_names.proofs.LogRows.{row, beginning_is}
+use Rattle.urb_node.proofs.Common.{Bool, Cause, Cert, Done, Entry, Holding, IsNext, Label, Limits}
+use Rattle.urb_node.proofs.Common.{List, Memory, Node, NodeView, None, Option, Pend, PendCert}
+use Rattle.urb_node.proofs.Common.{Ready, Reply, ShowsNode, ShowsReady, ShowsStoring, Some, State}
+use Rattle.urb_node.proofs.Common.{Storing, acked, acks_after, and_from, any_insert, ap, ap₂}
+use Rattle.urb_node.proofs.Common.{are_rising, certified_with, commits, cond-true, counted_with}
+use Rattle.urb_node.proofs.Common.{done, eq-eqb, false, filter, has_name, has_pair}
+use Rattle.urb_node.proofs.Common.{has_pair-inserted, heard_after, heard_of, if◌then◌else◌}
+use Rattle.urb_node.proofs.Common.{is_accepted, keeps_record, length, name_lt, name_of}
+use Rattle.urb_node.proofs.Common.{newly_released, not, packets_of, placed, ready_view, refl}
+use Rattle.urb_node.proofs.Common.{released, same_message, same_name, same_record, subst, suc, sym}
+use Rattle.urb_node.proofs.Common.{true, view_in, with_ack, with_heard, with_record, ℕ, ◌&&◌, ◌++◌}
+use Rattle.urb_node.proofs.Common.{◌-◌, ◌==◌, ◌||◌, ◌∙◌, ◌∷◌, ◌≡◌}
+use Rattle.urb_names.specs.Release.{beginning}
+use Rattle.urb_names.proofs.LogRows.{beginning_is, row}
 use Rattle.urb_names.proofs.CertificateReaches.{reach-same}
-use Rattle.urb_fifo.specs.NewReleases.{newly_released}
-use Rattle.urb_stable.specs.Entries.{Entry, name_of}
-use Rattle.urb_stable.specs.declared.record.Record.TheVariants.{Pend, PendCert, Cert}
-use Rattle.urb_node.specs.Part.{Node, State, Ready, Storing}
-use Rattle.urb_node.specs.RecordAdmission.{IsNext}
-use Rattle.urb_node.specs.Replies.{Done, Reply, Stored}
-use Rattle.urb_node.specs.NodeViews.{NodeView, ShowsNode}
-use Rattle.urb_node.specs.Steps.{acks_after, commits, done, heard_after, heard_of, is_accepted}
-use Rattle.urb_node.specs.Steps.{keeps_record, packets_of, same_record, with_heard}
-use Rattle.urb_node.specs.NodeMemories.{Memory, Holding, ShowsReady, ShowsStoring, view_in}
-use Rattle.urb_node.specs.internal.ReadyViews.{ready_view}
-use Rattle.urb_node.specs.internal.LayerAdditions.{counted_with, certified_with, delivered_with, heard_with}
-use Rattle.urb_node.specs.internal.LayerAdditions.{with_record}
+use Rattle.urb_node.specs.Replies.{Stored}
+use Rattle.urb_node.specs.internal.LayerAdditions.{delivered_with, heard_with}
 use Rattle.urb_node.proofs.RestartReplies.{same_record-same}
 use Rattle.urb_node.proofs.ShownNodes.{with-same}
-use Rattle.urb_node.proofs.JoinedMemory.{SaysMore, confirm-shows, done-shown, log-stays}
-use Rattle.urb_node.proofs.JoinedMemory.{log-released}
+use Rattle.urb_node.proofs.JoinedMemory.{SaysMore, confirm-shows, done-shown, log-released}
+use Rattle.urb_node.proofs.JoinedMemory.{log-stays}
 use Rattle.urb_node.proofs.ArrivalOutcomes.{counted-with}
-use Rattle.urb_node.specs.declared.cause.Cause.{Cause}
 
 -- the log is the release of certificates, the newest first, and exactly these names are certified
 pub record IsReleased (a : Memory) : Type 0 where

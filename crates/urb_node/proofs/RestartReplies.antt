@@ -1,23 +1,16 @@
 -- A restart in terms of a node's memory: the reply, and the node that the memory shows afterwards.
-use Rattle.std.proofs.Common.{List, None, Option, Some, [], ap, ap₂, false, refl, subst, sym, true}
-use Rattle.std.proofs.Common.{ℕ, ◌++◌, ◌∙◌, ◌∷◌, ◌≡◌}
-use Rattle.std.proofs.lemmas.Bool.{and_from, and_parts, cond-false, cond-true, false≢true}
-use Rattle.urb_names.proofs.SameNames.{same_message-same, same_message-true, same_name-same}
-use Rattle.urb_names.proofs.SameNames.{same_name-true}
-use Rattle.urb_names.specs.Acknowledgements.{acked}
-use Rattle.urb_names.specs.CyclicOrder.{are_rising}
-use Rattle.urb_names.specs.Names.{has_name, same_message, same_name}
-use Rattle.urb_names.specs.LabelsAndContents.{Label, Limits}
+use Rattle.urb_node.proofs.Common.{Cert, Down, Entry, IsNext, Label, Limits, List, Node, NodeView}
+use Rattle.urb_node.proofs.Common.{None, Option, Pend, PendCert, Ready, Refused, Reply, ShowsNode}
+use Rattle.urb_node.proofs.Common.{Some, [], acked, and_from, and_parts, ap, ap₂, are_rising}
+use Rattle.urb_node.proofs.Common.{broadcast_after, comes_up, cond-false, cond-true, false}
+use Rattle.urb_node.proofs.Common.{false≢true, has_name, refl, refuses, restarts, restarts_with}
+use Rattle.urb_node.proofs.Common.{same_message, same_message-same, same_name, same_name-same}
+use Rattle.urb_node.proofs.Common.{same_name-true, same_record, says, self_acks, subst, sym, tells}
+use Rattle.urb_node.proofs.Common.{true, ℕ, ◌++◌, ◌∙◌, ◌∷◌, ◌≡◌}
+use Rattle.urb_names.proofs.SameNames.{same_message-true}
 use Rattle.urb_node.proofs.JoinedMemory.{SaysMore, joined-shows, up-joined-shows, up-shows}
 use Rattle.urb_node.proofs.ShownNodes.{shown-told}
-use Rattle.urb_node.specs.RecordAdmission.{IsNext}
-use Rattle.urb_node.specs.Part.{Down, Node, Ready, self_acks}
-use Rattle.urb_node.specs.Replies.{Refused, Reply, Up}
-use Rattle.urb_node.specs.NodeViews.{NodeView, ShowsNode}
-use Rattle.urb_node.specs.Steps.{broadcast_after, comes_up, refuses, restarts, restarts_with}
-use Rattle.urb_node.specs.Steps.{same_record, says, tells}
-use Rattle.urb_stable.specs.Entries.{Entry}
-use Rattle.urb_stable.specs.declared.record.Record.TheVariants.{Cert, Pend, PendCert}
+use Rattle.urb_node.specs.Replies.{Up}
 use Rattle.urb_names.specs.declared.refusal.Refusal.TheVariants as refusal
 
 -- this is the reply of a node's part of a step, and the memory holds the node after it

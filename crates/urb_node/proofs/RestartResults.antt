@@ -1,24 +1,13 @@
 -- A restart: what the image says about a node's memory leads to the definition's result.
-use Rattle.std.proofs.Common.{◌≡◌, ◌∙◌, Bool, Err, List, None, Ok, Option, Some, [], ap, cond}
-use Rattle.std.proofs.Common.{false, refl, subst, sym, true, ℕ, ◌&&◌, ◌==◌, ◌++◌, ◌∷◌, ◌||◌}
-use Rattle.std.specs.Prelude.{if◌then◌else◌}
-use Rattle.std.specs.Option.{ForSome}
-use Rattle.urb_names.specs.Acknowledgements.{acked}
-use Rattle.urb_names.specs.CyclicOrder.{are_rising, inserted}
-use Rattle.urb_names.specs.Names.{name_lt, same_name}
-use Rattle.urb_names.specs.LabelsAndContents.{Content, Label, Limits}
-use Rattle.urb_names.specs.declared.refusal.Refusal.TheVariants as refusal
-use Rattle.urb_stable.specs.Entries.{Entry}
-use Rattle.urb_stable.specs.declared.record.Record.TheVariants.{Cert, Pend, PendCert}
-use Rattle.urb_node.specs.internal.HeldLayers.{IsNextIn}
-use Rattle.urb_node.specs.internal.ImageVerdicts.{CountsItself, IsOther, IsOtherThan, Says}
-use Rattle.urb_node.specs.internal.ImageVerdicts.{SaysWith}
-use Rattle.urb_node.specs.internal.LayerAdditions.{with_doubtful, with_record}
-use Rattle.urb_node.specs.CallEffects.{MayGrow, Restarts}
-use Rattle.urb_node.specs.Part.{Down, Node, Ready, State, self_acks}
-use Rattle.urb_node.specs.NodeViews.{ShowsNode}
-use Rattle.urb_node.specs.Steps.{broadcast_after, comes_up, refuses, restarts, restarts_with, says}
-use Rattle.urb_node.specs.NodeMemories.{Memory, view_in}
+use Rattle.urb_node.proofs.Common.{Bool, Cert, Content, Down, Entry, Err, ForSome, IsNextIn}
+use Rattle.urb_node.proofs.Common.{IsOtherThan, Label, Limits, List, MayGrow, Memory, Node, None}
+use Rattle.urb_node.proofs.Common.{Ok, Option, Pend, PendCert, Ready, Restarts, SaysWith, ShowsNode}
+use Rattle.urb_node.proofs.Common.{Some, State, [], acked, ap, are_rising, broadcast_after}
+use Rattle.urb_node.proofs.Common.{comes_up, cond, false, if◌then◌else◌, inserted, name_lt, refl}
+use Rattle.urb_node.proofs.Common.{refuses, restarts, restarts_with, same_name, says, self_acks}
+use Rattle.urb_node.proofs.Common.{subst, sym, true, view_in, with_doubtful, with_record, ℕ, ◌&&◌}
+use Rattle.urb_node.proofs.Common.{◌++◌, ◌==◌, ◌||◌, ◌∙◌, ◌∷◌, ◌≡◌}
+use Rattle.urb_node.specs.internal.ImageVerdicts.{CountsItself, IsOther, Says}
 use Rattle.urb_node.proofs.RestartReplies.{bad_image-call, bad_image-joined-call, restart-call}
 use Rattle.urb_node.proofs.RestartReplies.{restart-joined-call}
 use Rattle.urb_node.proofs.JoinedMemory.{SaysMore}
@@ -26,6 +15,7 @@ use Rattle.urb_node.proofs.RecordOutcomes.{IsFirst, IsReleased, record-acks, rec
 use Rattle.urb_node.proofs.RecordOutcomes.{same_limits}
 use Rattle.urb_node.proofs.ShownNodes.{acked-with}
 use Rattle.urb_names.proofs.TruthValues.{or_swap}
+use Rattle.urb_names.specs.declared.refusal.Refusal.TheVariants as refusal
 
 -- ---- what is stored
 

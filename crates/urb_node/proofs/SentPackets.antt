@@ -1,43 +1,25 @@
 -- The packets that a node returns carry its stored pairs.
-use Rattle.std.proofs.Common.{Bool, Err, List, None, Ok, Option, Result, Some, [], false, refl}
-use Rattle.std.proofs.Common.{ControlFlow, Break, Continue, subst, sym, true, ℕ, ◌∙◌, ◌∷◌, ◌≡◌}
-use Rattle.std.proofs.lemmas.Bool.{false≢true, or_left}
-use Rattle.std.specs.Prelude.{IfOk, if◌then◌else◌}
-use Rattle.urb_names.proofs.FoundPairs.{has_pair-found}
-use Rattle.urb_names.proofs.ElementPlaces.{any_insert}
-use Rattle.urb_names.proofs.OrderedPairs.{has_pair-head, has_pair-inserted}
-use Rattle.urb_names.proofs.SameNames.{same_name-same}
-use Rattle.urb_names.proofs.SentPairs.{all_weaker, resent-from, to_others-from}
-use Rattle.urb_names.specs.Acknowledgements.{acked, with_ack}
-use Rattle.urb_names.specs.CarriedPackets.{AreFrom, Carried, IsFrom, says_certified}
-use Rattle.urb_names.specs.CyclicOrder.{inserted}
-use Rattle.urb_names.specs.Names.{has_name, name_lt, same_name}
-use Rattle.urb_names.specs.LabelsAndContents.{Content, Label}
-use Rattle.urb_names.specs.Nodes.{majority_passes}
-use Rattle.urb_names.specs.RisingLists.{placed}
-use Rattle.urb_names.specs.Pairs.{has_pair, message_of}
-use Rattle.urb_names.specs.declared.flags.Flags.{Flags}
-use Rattle.urb_names.specs.declared.refusal.NoMemory.{NoMemory}
-use Rattle.urb_stable.specs.Entries.{Entry}
-use Rattle.urb_stable.specs.declared.record.Record.TheVariants.{Cert, Pend, PendCert}
-use Rattle.urb_stubborn.specs.Resends.{Resending, tick_packets}
-use Rattle.urb_node.specs.internal.OutcomeSteps.{Finds, step_from}
-use Rattle.urb_node.specs.internal.LayerAdditions.{certified_with, with_record}
-use Rattle.urb_node.specs.CallEffects.{AnswersFrom, AnswersOfStored, AreOfStored}
-use Rattle.urb_node.specs.AnswerPackets.{answer_with}
-use Rattle.urb_node.specs.internal.Outcomes.{Answers, Outcome, Refuses, Wants, arrive_outcome}
-use Rattle.urb_node.specs.internal.Outcomes.{certified_outcome, counted_outcome, hearing}
-use Rattle.urb_node.specs.internal.Outcomes.{pending_outcome, wants_answer, with_counted}
-use Rattle.urb_node.specs.Part.{Ready, State, packet_from}
+use Rattle.urb_node.proofs.Common.{Answer, Answers, AnswersFrom, AnswersOfStored, AreFrom}
+use Rattle.urb_node.proofs.Common.{AreOfStored, Bool, Break, Carried, Cause, Cert, Content}
+use Rattle.urb_node.proofs.Common.{Continue, ControlFlow, Entry, Err, Finds, Flags, IfOk, Label}
+use Rattle.urb_node.proofs.Common.{List, Memory, NoMemory, None, Ok, Option, Outcome, Pend}
+use Rattle.urb_node.proofs.Common.{PendCert, Ready, Refuses, Resending, Result, ShowsIn, Some}
+use Rattle.urb_node.proofs.Common.{State, Wanted, Wants, [], acked, all_weaker, answer_with}
+use Rattle.urb_node.proofs.Common.{any_insert, arrive_outcome, certified_outcome, certified_with}
+use Rattle.urb_node.proofs.Common.{counted_outcome, false, false≢true, has_name, has_pair}
+use Rattle.urb_node.proofs.Common.{has_pair-found, has_pair-head, has_pair-inserted, heard_of}
+use Rattle.urb_node.proofs.Common.{hearing, if◌then◌else◌, inserted, majority_passes, message_of}
+use Rattle.urb_node.proofs.Common.{name_lt, or_left, packet_from, packets_of, pending_outcome}
+use Rattle.urb_node.proofs.Common.{placed, refl, resent-from, same_name, same_name-same}
+use Rattle.urb_node.proofs.Common.{says_certified, step_from, subst, sym, tick_packets}
+use Rattle.urb_node.proofs.Common.{to_others-from, true, with_ack, with_counted, with_record, ℕ}
+use Rattle.urb_node.proofs.Common.{◌∙◌, ◌∷◌, ◌≡◌}
+use Rattle.urb_names.specs.CarriedPackets.{IsFrom}
+use Rattle.urb_node.specs.internal.Outcomes.{wants_answer}
 use Rattle.urb_node.specs.Replies.{packets_with}
 use Rattle.urb_node.proofs.RecordOutcomes.{same_limits}
-use Rattle.urb_node.specs.Steps.{heard_of, packets_of}
-use Rattle.urb_node.specs.NodeMemories.{Memory, ShowsIn}
-use Rattle.urb_node.specs.declared.answer.Answer.{Answer}
-use Rattle.urb_node.specs.declared.answer.Answer.TheVariants as answer
-use Rattle.urb_node.specs.declared.cause.Cause.{Cause}
-use Rattle.urb_node.specs.declared.call_outcomes.Wanted.{Wanted}
 use Rattle.urb_node.specs.declared.step.Step.{Step}
+use Rattle.urb_node.specs.declared.answer.Answer.TheVariants as answer
 use Rattle.urb_node.specs.declared.step.Step.TheVariants as step
 
 -- packets of the pairs in memory carry stored pairs of each node that is shown

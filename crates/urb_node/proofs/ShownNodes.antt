@@ -1,28 +1,20 @@
 -- What a node's memory says about the node that it shows.
-use Rattle.std.proofs.Common.{Bool, List, Some, [], ap, ap₂, cond, eqb-true, false, length, is_some}
-use Rattle.std.proofs.Common.{refl, subst, suc, sym, true, ℕ, ⊎_elim, ◌&&◌, ◌==◌, ◌||◌, ◌∙◌, ◌∷◌}
-use Rattle.std.proofs.Common.{◌≡◌}
-use Rattle.std.proofs.Math.Path.{fun_ext}
-use Rattle.std.proofs.lemmas.Bool.{and_from, and_parts, false≢true, or_cases, or_left, or_right}
-use Rattle.std.specs.List.{list_all}
-use Rattle.urb_names.proofs.FoundPairs.{Unique, has_pair-found, same_found}
-use Rattle.urb_names.proofs.OrderedPairs.{has_pair-behind, has_pair-first, has_pair-head}
-use Rattle.urb_names.proofs.SameNames.{same_name-same, same_name-true}
-use Rattle.urb_names.specs.Acknowledgements.{acked, with_ack}
-use Rattle.urb_names.specs.CyclicOrder.{are_rising, rising}
-use Rattle.urb_names.specs.Names.{has_name, same_message, same_name}
-use Rattle.urb_names.specs.LabelsAndContents.{Content, Label, Limits}
-use Rattle.urb_names.specs.Nodes.{majority_passes}
-use Rattle.urb_names.specs.Pairs.{has_pair, message_of, own}
-use Rattle.urb_node.specs.Part.{Node, own_acks, self_acks}
-use Rattle.urb_node.specs.NodeViews.{NodeView, ShowsNode}
-use Rattle.urb_node.specs.Steps.{next_position, same_list, same_names, same_pairs, says, tells}
+use Rattle.urb_node.proofs.Common.{Bool, Content, Entry, Label, Limits, List, Node, NodeView}
+use Rattle.urb_node.proofs.Common.{ShowsNode, Some, [], acked, and_from, and_parts, ap, ap₂}
+use Rattle.urb_node.proofs.Common.{are_rising, both_ways, cert, cond, eqb-true, false, false≢true}
+use Rattle.urb_node.proofs.Common.{fun_ext, has_name, has_pair, has_pair-found, has_pair-head}
+use Rattle.urb_node.proofs.Common.{is_some, length, list_all, log, majority_passes, message_of}
+use Rattle.urb_node.proofs.Common.{or_cases, or_left, or_right, own, own_acks, pend, refl}
+use Rattle.urb_node.proofs.Common.{same_list, same_message, same_name, same_name-same}
+use Rattle.urb_node.proofs.Common.{same_name-true, same_names, same_pairs, says, self_acks, subst}
+use Rattle.urb_node.proofs.Common.{suc, sym, tells, true, with_ack, ℕ, ⊎_elim, ◌&&◌, ◌==◌, ◌||◌}
+use Rattle.urb_node.proofs.Common.{◌∙◌, ◌∷◌, ◌≡◌}
+use Rattle.urb_names.proofs.FoundPairs.{Unique, same_found}
+use Rattle.urb_names.proofs.OrderedPairs.{has_pair-behind, has_pair-first}
+use Rattle.urb_names.specs.CyclicOrder.{rising}
+use Rattle.urb_node.specs.Steps.{next_position}
 use Rattle.urb_stable.proofs.OwnRules.{own-unique}
 use Rattle.urb_stable.proofs.RisingRecords.{own-records, rising-records}
-use Rattle.urb_stable.specs.Entries.{Entry}
-use Rattle.urb_stable.specs.DeliveredLogs.{log}
-use Rattle.urb_stable.specs.Records.{cert, pend}
-use Rattle.urb_names.proofs.TruthValues.{both_ways}
 
 -- ---- pairs
 

@@ -1,22 +1,15 @@
 -- The outcomes of a submit. A property holds for its outcome if it holds for any refusal, for a
 -- message that was accepted before, and for a new draft. A new refusal of a submit changes only
 -- this file.
-use Rattle.std.proofs.Common.{None, Option, Some, bytes_eq, false, find, length, nat_lt}
-use Rattle.std.proofs.Common.{not, refl, suc, sym, true, ℕ, ◌==◌, ◌≡◌, ◌≤◌}
-use Rattle.std.proofs.lemmas.Bool.{cond_both, false≢true, ltb-false, not-false}
-use Rattle.std.specs.Prelude.{if◌then◌else◌}
-use Rattle.std.specs.List.{position_or_len}
-use Rattle.urb_names.specs.Names.{name}
-use Rattle.urb_names.specs.LabelsAndContents.{Content, Label, Limits}
-use Rattle.urb_names.specs.Pairs.{is_numbered, next_number}
-use Rattle.urb_names.specs.declared.limits.TheConstants.{MAX_PAYLOAD}
-use Rattle.urb_names.specs.declared.refusal.Refusal.{Refusal}
-use Rattle.urb_names.specs.declared.refusal.Refusal.TheVariants as refusal
-use Rattle.urb_node.specs.Part.{Down, Node, Ready, State, Storing}
-use Rattle.urb_node.specs.Replies.{Reply, Same}
-use Rattle.urb_node.specs.Steps.{drafts, is_down, is_storing, refuses, submits, submits_by_number}
+use Rattle.urb_node.proofs.Common.{Content, Down, Label, Limits, MAX_PAYLOAD, Node, None, Option}
+use Rattle.urb_node.proofs.Common.{Pend, PendCert, Ready, Refusal, Reply, Same, Some, State}
+use Rattle.urb_node.proofs.Common.{Storing, bytes_eq, drafts, false, false≢true, find}
+use Rattle.urb_node.proofs.Common.{if◌then◌else◌, is_down, is_numbered, is_storing, length, name}
+use Rattle.urb_node.proofs.Common.{nat_lt, next_number, not, position_or_len, refl, refuses}
+use Rattle.urb_node.proofs.Common.{submits, submits_by_number, suc, sym, true, ℕ, ◌==◌, ◌≡◌, ◌≤◌}
+use Rattle.std.proofs.lemmas.Bool.{cond_both, ltb-false, not-false}
 use Rattle.urb_node.specs.declared.answer.Answer.TheVariants.{Accepted}
-use Rattle.urb_stable.specs.declared.record.Record.TheVariants.{Pend, PendCert}
+use Rattle.urb_names.specs.declared.refusal.Refusal.TheVariants as refusal
 
 -- a node that is up and holds no draft is ready
 pub is-ready : (s : State) → is_down s ≡ false → is_storing s ≡ false → s ≡ Ready

@@ -1,34 +1,23 @@
 -- The outcome of a submit in a memory is the definition's for every node that the memory shows.
-use Rattle.std.proofs.Common.{◌≡◌, ℕ, zero, suc, ◌+◌, ◌*◌, ◌≤◌, Bool, true, false, cond, not, ◌==◌}
-use Rattle.std.proofs.Common.{nat_lt, List, [], ◌∷◌, length, find, bytes_eq, Option, Some, None}
-use Rattle.std.proofs.Common.{slice_get, refl, sym, ap, ◌∙◌, subst, arith, ne_eqb, le-ltb}
-use Rattle.std.specs.Prelude.{option_map, if◌then◌else◌}
-use Rattle.std.specs.List.{position_or_len, prefix_len}
-use Rattle.urb_names.specs.LabelsAndContents.{Label, Content}
-use Rattle.urb_names.specs.Names.{name}
-use Rattle.urb_names.specs.Nodes.{is_majority}
-use Rattle.urb_names.specs.Pairs.{message_of, is_numbered, next_number}
-use Rattle.urb_names.specs.CyclicOrder.{are_rising}
-use Rattle.urb_names.specs.declared.limits.TheConstants.{MAX_PAYLOAD}
-use Rattle.urb_names.specs.declared.refusal.Refusal.TheVariants as refusal
-use Rattle.urb_stable.specs.Entries.{Entry, name_of}
-use Rattle.urb_pending.specs.PendingSet.{name_given}
-use Rattle.urb_stable.specs.declared.record.Record.TheVariants.{Pend, PendCert}
+use Rattle.urb_node.proofs.Common.{Answers, Bool, Cause, Content, Drafted, Entry, Label, List}
+use Rattle.urb_node.proofs.Common.{MAX_PAYLOAD, Memory, Node, None, Option, Pend, PendCert, Refuses}
+use Rattle.urb_node.proofs.Common.{Same, ShowsReady, Some, State, Storing, Wants, [], ap}
+use Rattle.urb_node.proofs.Common.{are_rising, arith, bytes_eq, cond, drafts, false, find}
+use Rattle.urb_node.proofs.Common.{if◌then◌else◌, is_down, is_majority, is_numbered, is_storing}
+use Rattle.urb_node.proofs.Common.{le-ltb, length, message_of, name, name_given, name_of, nat_lt}
+use Rattle.urb_node.proofs.Common.{ne_eqb, next_number, not, numbered_outcome, option_map, own_of}
+use Rattle.urb_node.proofs.Common.{position_or_len, prefix_len, ready_view, refl, refuses}
+use Rattle.urb_node.proofs.Common.{slice_get, submit_outcome, submits, submits_by_number, subst}
+use Rattle.urb_node.proofs.Common.{suc, sym, true, view_in, zero, ℕ, ◌*◌, ◌+◌, ◌==◌, ◌∙◌, ◌∷◌, ◌≡◌}
+use Rattle.urb_node.proofs.Common.{◌≤◌}
 use Rattle.urb_stable.proofs.OwnRules.{own-numbered}
-use Rattle.urb_node.specs.Part.{Node, State, Storing}
-use Rattle.urb_node.specs.Replies.{Drafted, Same}
-use Rattle.urb_node.specs.declared.answer.Answer.TheVariants as answer
-use Rattle.urb_node.specs.Steps.{is_down, is_storing, submits, submits_by_number, submits_new}
-use Rattle.urb_node.specs.Steps.{submits_again, drafts, refuses}
-use Rattle.urb_node.specs.NodeMemories.{Memory, ShowsReady, view_in}
-use Rattle.urb_node.specs.internal.ReadyViews.{ready_view}
-use Rattle.urb_node.specs.internal.Outcomes.{Answers, Refuses, Wants, own_of, own_record}
-use Rattle.urb_node.specs.internal.Outcomes.{fresh_outcome}
-use Rattle.urb_node.specs.internal.Outcomes.{numbered_outcome, repeat_outcome, submit_outcome}
-use Rattle.urb_node.proofs.ShownNodes.{shown-found, shown-broadcast}
+use Rattle.urb_node.specs.Steps.{submits_again, submits_new}
+use Rattle.urb_node.specs.internal.Outcomes.{fresh_outcome, own_record, repeat_outcome}
+use Rattle.urb_node.proofs.ShownNodes.{shown-broadcast, shown-found}
 use Rattle.urb_node.proofs.MemoryChanges.{draft-shows}
 use Rattle.urb_node.proofs.OutcomeAgreement.{Says}
-use Rattle.urb_node.specs.declared.cause.Cause.{Cause}
+use Rattle.urb_names.specs.declared.refusal.Refusal.TheVariants as refusal
+use Rattle.urb_node.specs.declared.answer.Answer.TheVariants as answer
 
 -- what `find` finds is at its place
 pub find-place : {X : Type 0} (test : X → Bool) (xs : List X) (x : X) → find test xs ≡ Some x

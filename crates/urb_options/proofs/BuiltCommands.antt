@@ -1,7 +1,6 @@
 -- The command after arguments and subcommands are added to it.
-use Rattle.std.proofs.Common.{◌≡◌, ◌∙◌, ◌||◌, ap, ap₂, false}
-use Rattle.clap.specs.Words.{App, Rule, AddsArg, AddsSubcommand, app_of, rule_of, with_rule}
-use Rattle.clap.specs.Words.{with_subcommand}
+use Rattle.urb_options.proofs.Common.{App, ap, app_of, ap₂, false, ◌||◌, ◌∙◌, ◌≡◌}
+use Rattle.clap.specs.Words.{AddsArg, AddsSubcommand, Rule, rule_of, with_rule, with_subcommand}
 use Rattle.clap.specs.declared.builder.arg.Arg.{Arg}
 use Rattle.clap.specs.declared.builder.command.Command.{Command}
 use Rattle.clap.specs.declared.builder.command.Command.TheViews.{out-Command}

@@ -1,13 +1,12 @@
 -- The numbers read from the values that the parser found.
-use Rattle.std.proofs.Common.{◌≡◌, ◌∙◌, ◌&&◌, ◌<◌, ◌≤◌, ◌^◌, ap, refl, ℕ, Bool, true}
-use Rattle.std.proofs.Common.{false, cond, List, [], ◌∷◌, length, Option, Some, None, Result, Ok}
-use Rattle.std.proofs.Common.{Err, arith}
-use Rattle.std.specs.Prelude.{nat_lt, nat_le, option_and_then}
+use Rattle.urb_options.proofs.Common.{Bool, Err, List, None, Ok, Option, ParsesUnsigned, Result}
+use Rattle.urb_options.proofs.Common.{Some, [], and_parts, ap, arith, cond, false, length, nat_le}
+use Rattle.urb_options.proofs.Common.{nat_lt, option_and_then, refl, true, ℕ, ◌&&◌, ◌<◌, ◌^◌, ◌∙◌}
+use Rattle.urb_options.proofs.Common.{◌∷◌, ◌≡◌, ◌≤◌}
 use Rattle.std.specs.List.{list_all}
 use Rattle.std.specs.Char.{digit_value}
-use Rattle.std.specs.Str.Parse.{AllDigits, IsNumeral, ParsesUnsigned, digits_value}
-use Rattle.std.specs.Str.Parse.{without_leading_plus}
-use Rattle.std.proofs.lemmas.Bool.{and_parts, leb-true, lt-ltb, ltb-true}
+use Rattle.std.specs.Str.Parse.{AllDigits, IsNumeral, digits_value, without_leading_plus}
+use Rattle.std.proofs.lemmas.Bool.{leb-true, lt-ltb, ltb-true}
 use Rattle.clap.specs.Words.{Text, one_text, rows_of}
 use Rattle.clap.proofs.WalkLemmas.{one_text-rows}
 use Rattle.clap.specs.Matches.{ReadsOne}

@@ -1,6 +1,6 @@
-//! Where a node takes its clients.
+//! The address at which a node takes its clients.
 
-/// Where a node takes its clients: at a port of this machine, or at a Unix socket.
+/// The address at which a node takes its clients: a port of this machine, or a Unix socket.
 #[derive(Clone, Copy, Debug, PartialEq, Eq)]
 pub enum NodeAddress<'a> {
     /// A TCP port at 127.0.0.1, from 1.

@@ -1,12 +1,11 @@
 -- What rows say once one client's row has changed.
-use Rattle.std.proofs.Common.{◌≡◌, ℕ, ◌<◌, Bool, true, false, cond, ◌==◌, List, [], ◌∷◌, ◌++◌}
-use Rattle.std.proofs.Common.{length, get_or, insert, None, Some, Option, slice_get, refl, sym, ap}
-use Rattle.std.proofs.Common.{◌∙◌, is_some, eq-eqb, eqb-true}
-use Rattle.std.proofs.lemmas.Bool.{false≢true}
-use Rattle.urb_names.specs.RisingLists.{placed}
-use Rattle.urb_pending.specs.internal.ClientRows.{Row, row_lt, row_of, are_in_order}
-use Rattle.urb_pending.specs.internal.ClientIndex.{given_to, has_room, numbers_in, is_roomy}
-use Rattle.urb_pending.proofs.ClientRowPlaces.{IsHeld, with_row, place_in, held_in, get_at}
+use Rattle.urb_pending.proofs.Common.{Bool, List, None, Option, Row, Some, [], ap, are_in_order}
+use Rattle.urb_pending.proofs.Common.{cond, eq-eqb, false, false≢true, get_or, given_to, has_room}
+use Rattle.urb_pending.proofs.Common.{is_roomy, is_some, length, numbers_in, placed, refl, row_lt}
+use Rattle.urb_pending.proofs.Common.{row_of, slice_get, sym, true, ℕ, ◌++◌, ◌<◌, ◌==◌, ◌∙◌, ◌∷◌}
+use Rattle.urb_pending.proofs.Common.{◌≡◌}
+use Rattle.std.proofs.Common.{eqb-true, insert}
+use Rattle.urb_pending.proofs.ClientRowPlaces.{IsHeld, get_at, held_in, place_in, with_row}
 use Rattle.urb_pending.proofs.IndexGrowth.{with_given}
 
 module _ (client : ℕ) (new : Row) (rows after : List Row)

@@ -1,17 +1,14 @@
 -- The index of a node's own messages by client, with one more message.
-use Rattle.std.proofs.Common.{◌≡◌, ℕ, zero, suc, ◌+◌, Bool, true, false, cond, not, ◌&&◌, ◌==◌}
-use Rattle.std.proofs.Common.{List, [], ◌∷◌, ◌++◌, length, count_by, find, None, Some, Option}
-use Rattle.std.proofs.Common.{slice_get, refl, sym, ap, ◌∙◌, arith, eq-eqb, eqb-true, ne_eqb}
-use Rattle.std.proofs.lemmas.Bool.{eqb-false}
-use Rattle.std.specs.Prelude.{option_map}
+use Rattle.urb_pending.proofs.Common.{Bool, Content, IsIndexOf, List, None, Option, Row, Some, []}
+use Rattle.urb_pending.proofs.Common.{ap, arith, cond, count_by, eq-eqb, eqb-false, false, find}
+use Rattle.urb_pending.proofs.Common.{given_to, length, length-append, ne_eqb, next_number, not}
+use Rattle.urb_pending.proofs.Common.{option_map, option_or, refl, slice_get, suc, sym, true, zero}
+use Rattle.urb_pending.proofs.Common.{ℕ, ◌&&◌, ◌++◌, ◌+◌, ◌==◌, ◌∙◌, ◌∷◌, ◌≡◌}
+use Rattle.std.proofs.Common.{eqb-true}
 use Rattle.std.specs.List.{position_or_len}
-use Rattle.std.specs.Option.{option_or}
-use Rattle.std.proofs.lemmas.List.{length-append}
 use Rattle.std.proofs.lemmas.List.Sums.{sum_by-append}
-use Rattle.urb_names.specs.LabelsAndContents.{Content}
-use Rattle.urb_names.specs.Pairs.{is_numbered, next_number}
-use Rattle.urb_pending.specs.internal.ClientRows.{Row}
-use Rattle.urb_pending.specs.internal.ClientIndex.{IsIndexOf, given_to, nth, place_given}
+use Rattle.urb_names.specs.Pairs.{is_numbered}
+use Rattle.urb_pending.specs.internal.ClientIndex.{nth, place_given}
 use Rattle.urb_names.proofs.TruthValues.{eqb-turned}
 
 -- the place, from 1, of the first message that passes

@@ -1,13 +1,11 @@
 -- Pairs in rising order, and one more among them.
-use Rattle.std.proofs.Common.{◌≡◌, ℕ, suc, ◌+◌, Bool, true, false, cond, List, [], ◌∷◌, None, Some}
-use Rattle.std.proofs.Common.{refl, sym, ap, ◌∙◌, inl, inr, ◌⊎◌, subst, arith}
-use Rattle.std.specs.List.{list_all, insert, prefix_len}
-use Rattle.std.proofs.lemmas.Bool.{and_parts, and_from, cond-true, cond-false}
-use Rattle.urb_names.specs.LabelsAndContents.{Label, Content}
-use Rattle.urb_names.specs.Names.{name_lt, same_name}
-use Rattle.urb_names.specs.Pairs.{message_of}
-use Rattle.urb_names.specs.CyclicOrder.{are_rising, inserted}
-use Rattle.urb_names.proofs.RisingPairs.{name_lt-trans, name_lt-other_way, name_lt-one_way}
+use Rattle.urb_pending.proofs.Common.{Bool, Content, Label, List, None, Some, [], and_from}
+use Rattle.urb_pending.proofs.Common.{and_parts, ap, are_rising, arith, cond, cond-false, cond-true}
+use Rattle.urb_pending.proofs.Common.{false, inl, inr, inserted, list_all, message_of, name_lt}
+use Rattle.urb_pending.proofs.Common.{name_lt-trans, prefix_len, refl, same_name, subst, suc, sym}
+use Rattle.urb_pending.proofs.Common.{true, ℕ, ◌+◌, ◌∙◌, ◌∷◌, ◌≡◌, ◌⊎◌}
+use Rattle.std.specs.List.{insert}
+use Rattle.urb_names.proofs.RisingPairs.{name_lt-one_way, name_lt-other_way}
 
 -- a pair is inserted after those that come before it
 pub inserted_at : (p : Label × Content) (ps : List (Label × Content))

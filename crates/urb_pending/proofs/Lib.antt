@@ -7,6 +7,7 @@
 -- rests on the order of names and on rising lists, both in `urb_names`. Read the files in the order
 -- of the list below. Five are about pairs, the next three about the rows of clients, and the last
 -- two about what calls find and add.
+mod Common
 pub mod InsertedPairs
 pub mod OwnPairs
 pub mod PairLimits

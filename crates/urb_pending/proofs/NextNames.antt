@@ -1,12 +1,8 @@
 -- Cyclic order of names: the next name.
-use Rattle.std.proofs.Common.{◌≡◌, Bool, true, false, cond, not, List, [], ◌∷◌, ◌++◌, filter, None}
-use Rattle.std.proofs.Common.{Some, refl, ◌∙◌}
-use Rattle.std.specs.Prelude.{find, option_map}
-use Rattle.std.specs.Option.{option_or}
-use Rattle.urb_names.specs.LabelsAndContents.{Label, Content}
-use Rattle.urb_names.specs.Names.{name_lt}
+use Rattle.urb_pending.proofs.Common.{Bool, Content, Label, List, None, Some, [], cond, false}
+use Rattle.urb_pending.proofs.Common.{filter, find, first_name, name_lt, not, option_map, option_or}
+use Rattle.urb_pending.proofs.Common.{refl, true, ◌++◌, ◌∙◌, ◌∷◌, ◌≡◌}
 use Rattle.urb_names.specs.CyclicOrder.{cyclic, is_after}
-use Rattle.urb_pending.specs.PendingSet.{first_name}
 
 -- the first that passes, or else the first of the rest, is the first once those that pass are put
 -- before the rest

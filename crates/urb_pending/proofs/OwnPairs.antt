@@ -1,19 +1,13 @@
 -- A sender's own pairs among sorted pairs.
-use Rattle.std.proofs.Common.{◌≡◌, ℕ, zero, suc, ◌+◌, ◌<◌, ◌≤◌, Bool, true, false, cond, ◌&&◌, ◌==◌}
-use Rattle.std.proofs.Common.{List, [], ◌∷◌, ◌++◌, map, filter, length, None, Some, refl, sym, ap}
-use Rattle.std.proofs.Common.{◌∙◌, subst, arith, eq-eqb, lt-ltb, nat_lt}
-use Rattle.std.specs.List.{list_all}
-use Rattle.std.proofs.lemmas.Bool.{and_parts, and_from, false≢true, cond-true, cond-false, or_right}
-use Rattle.std.proofs.lemmas.List.{map-append}
+use Rattle.urb_pending.proofs.Common.{Bool, Content, Label, List, None, Some, [], and_from}
+use Rattle.urb_pending.proofs.Common.{and_parts, ap, are_rising, arith, cond, cond-false, cond-true}
+use Rattle.urb_pending.proofs.Common.{eq-eqb, false, false≢true, filter, inserted, length, list_all}
+use Rattle.urb_pending.proofs.Common.{lt-ltb, map, map-append, message_of, name, name_lt}
+use Rattle.urb_pending.proofs.Common.{name_lt-strict, name_lt-trans, names, nat_lt, numbers_from}
+use Rattle.urb_pending.proofs.Common.{or_right, own, part_of, refl, same_name, same_name-true}
+use Rattle.urb_pending.proofs.Common.{subst, suc, sym, true, zero, ℕ, ◌&&◌, ◌++◌, ◌+◌, ◌<◌, ◌==◌}
+use Rattle.urb_pending.proofs.Common.{◌∙◌, ◌∷◌, ◌≡◌, ◌≤◌}
 use Rattle.std.proofs.lemmas.List.Folds.{list_all-map}
-use Rattle.urb_names.specs.LabelsAndContents.{Label, Content}
-use Rattle.urb_names.specs.Nodes.{numbers_from}
-use Rattle.urb_names.specs.Names.{name, names, name_lt, same_name}
-use Rattle.urb_names.specs.Release.{part_of}
-use Rattle.urb_names.specs.Pairs.{own, message_of}
-use Rattle.urb_names.specs.CyclicOrder.{are_rising, inserted}
-use Rattle.urb_names.proofs.SameNames.{same_name-true}
-use Rattle.urb_names.proofs.RisingPairs.{name_lt-strict, name_lt-trans}
 use Rattle.urb_names.proofs.Places.{numbers_more}
 
 -- whether a pair is this sender's

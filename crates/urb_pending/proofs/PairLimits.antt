@@ -1,17 +1,14 @@
 -- The greatest possible number of pairs.
-use Rattle.std.proofs.Common.{◌≡◌, ℕ, suc, ◌+◌, ◌*◌, ◌<◌, ◌≤◌, true, ◌&&◌, ◌==◌, List, [], ◌∷◌}
-use Rattle.std.proofs.Common.{length, ⊎_elim, arith, eqb-true, ltb-true, nat_lt, Fits, w32}
-use Rattle.std.specs.Prelude.{nat_le}
-use Rattle.std.specs.List.{list_all}
-use Rattle.std.proofs.Math.Nat.{suc-mul, mul-le-mul_right}
+use Rattle.urb_pending.proofs.Common.{Content, Fits, IsPendingSet, Label, Limits, List, PendingSet}
+use Rattle.urb_pending.proofs.Common.{[], and_parts, are_rising, arith, is_node, is_within, length}
+use Rattle.urb_pending.proofs.Common.{list_all, ltb-true, name_lt, nat_le, nat_lt, or_cases, suc}
+use Rattle.urb_pending.proofs.Common.{true, w32, ℕ, ⊎_elim, ◌&&◌, ◌*◌, ◌+◌, ◌<◌, ◌==◌, ◌∷◌, ◌≡◌}
+use Rattle.urb_pending.proofs.Common.{◌≤◌}
+use Rattle.std.proofs.Common.{eqb-true}
+use Rattle.std.proofs.Math.Nat.{mul-le-mul_right, suc-mul}
 use Rattle.std.proofs.lemmas.Nat.{mul-le}
-use Rattle.std.proofs.lemmas.Bool.{and_parts, or_cases, leb-true}
+use Rattle.std.proofs.lemmas.Bool.{leb-true}
 use Rattle.urb_names.specs.declared.limits.TheConstants.{MAX_CAP, MAX_NODES}
-use Rattle.urb_names.specs.CyclicOrder.{are_rising}
-use Rattle.urb_names.specs.LabelsAndContents.{Limits, Label, Content}
-use Rattle.urb_names.specs.Nodes.{is_node}
-use Rattle.urb_names.specs.Names.{name_lt}
-use Rattle.urb_pending.specs.PendingSet.{PendingSet, IsPendingSet, is_within}
 
 -- a name within the limits
 record InRange (limits : Limits) (x : Label) : Type 0 where

@@ -1,25 +1,21 @@
 -- What is found under a name and at the front, and how far a node's own numbers go.
-use Rattle.std.proofs.Common.{◌≡◌, ℕ, zero, suc, Bool, true, false, cond, ◌||◌, ◌&&◌, ◌==◌, List}
-use Rattle.std.proofs.Common.{[], ◌∷◌, length, None, Some, Option, slice_get, refl, sym, ap, ◌∙◌}
-use Rattle.std.proofs.Common.{subst, inl, inr, ◌⊎◌}
-use Rattle.std.specs.Prelude.{option_map, take_while}
+use Rattle.urb_pending.proofs.Common.{Bool, Content, IsPendingSet, Label, List, None, Option}
+use Rattle.urb_pending.proofs.Common.{PendingSet, Some, [], and_parts, ap, are_rising, cond, false}
+use Rattle.urb_pending.proofs.Common.{false≢true, first_name, inl, inr, length, list_all}
+use Rattle.urb_pending.proofs.Common.{message_of, name, name_lt, name_lt-strict, names}
+use Rattle.urb_pending.proofs.Common.{numbers_from, option_map, or_cases, or_right, own, part_of}
+use Rattle.urb_pending.proofs.Common.{refl, same_message, same_name, same_name-true, slice_get}
+use Rattle.urb_pending.proofs.Common.{subst, suc, sym, take_while, true, zero, ℕ, ◌&&◌, ◌==◌, ◌||◌}
+use Rattle.urb_pending.proofs.Common.{◌∙◌, ◌∷◌, ◌≡◌, ◌⊎◌}
 use Rattle.std.specs.Bool.{MatchBool}
-use Rattle.std.specs.List.{list_all}
-use Rattle.std.proofs.lemmas.Bool.{and_parts, false≢true, false_from_ne_true, or_cases, or_from}
-use Rattle.std.proofs.lemmas.Bool.{or_left, or_right}
+use Rattle.std.proofs.lemmas.Bool.{false_from_ne_true, or_from, or_left}
 use Rattle.std.proofs.lemmas.List.{length-map}
 use Rattle.std.proofs.lemmas.List.Sums.{take_while-cons}
-use Rattle.urb_names.specs.LabelsAndContents.{Label, Content}
-use Rattle.urb_names.specs.Nodes.{numbers_from}
-use Rattle.urb_names.specs.Names.{has_name, name, name_lt, names, same_name, same_message}
-use Rattle.urb_names.specs.Pairs.{has_pair, message_of, own}
-use Rattle.urb_names.specs.CyclicOrder.{are_rising}
-use Rattle.urb_names.specs.Release.{beginning, part_of}
+use Rattle.urb_names.specs.Names.{has_name}
+use Rattle.urb_names.specs.Pairs.{has_pair}
+use Rattle.urb_names.specs.Release.{beginning}
 use Rattle.urb_names.proofs.SameNames.{same_message-same, same_message-true, same_name-same}
-use Rattle.urb_names.proofs.SameNames.{same_name-true}
 use Rattle.urb_window.specs.Entries.{low_of, names_of, value_of}
-use Rattle.urb_pending.specs.PendingSet.{PendingSet, IsPendingSet, first_name}
-use Rattle.urb_names.proofs.RisingPairs.{name_lt-strict}
 
 -- the value under a name is its message
 pub value_is : (ps : List (Label × Content)) (x : Label) → value_of ps x ≡ message_of ps x

@@ -1,20 +1,16 @@
 -- The invariant of a pending set's fields.
-use Rattle.std.proofs.Common.{◌≡◌, ℕ, suc, ◌+◌, ◌≤◌, Bool, true, false, cond, ◌&&◌, ◌==◌, List, []}
-use Rattle.std.proofs.Common.{◌∷◌, ◌++◌, length, None, refl, sym, ap, ◌∙◌, subst, arith, eqb-true}
-use Rattle.urb_names.specs.LabelsAndContents.{Label, Content, IsLabel}
-use Rattle.urb_names.specs.Pairs.{message_of, own, next_number}
-use Rattle.urb_names.specs.CyclicOrder.{inserted}
-use Rattle.urb_names.specs.RisingLists.{placed}
-use Rattle.urb_window.specs.Entries.{entry_lt}
+use Rattle.urb_pending.proofs.Common.{Bool, Content, IsIndexOf, IsLabel, IsPendingSet, Label, List}
+use Rattle.urb_pending.proofs.Common.{None, PendingSet, Row, [], ap, arith, cond, entry_lt, false}
+use Rattle.urb_pending.proofs.Common.{given_to, has_room, inserted, length, message_of, next_number}
+use Rattle.urb_pending.proofs.Common.{own, placed, refl, subst, suc, sym, true, ℕ, ◌&&◌, ◌++◌, ◌+◌}
+use Rattle.urb_pending.proofs.Common.{◌==◌, ◌∙◌, ◌∷◌, ◌≡◌, ◌≤◌}
+use Rattle.std.proofs.Common.{eqb-true}
 use Rattle.urb_window.specs.WindowSet.{WindowSet}
-use Rattle.urb_pending.specs.PendingSet.{PendingSet, IsPendingSet}
-use Rattle.urb_pending.specs.internal.ClientRows.{Row}
-use Rattle.urb_pending.specs.internal.ClientIndex.{IsIndexOf, given_to, has_room}
 use Rattle.urb_pending.specs.PendingFields.{view_of}
 use Rattle.urb_pending.specs.internal.FieldInvariant.{IsKept}
 use Rattle.urb_pending.specs.declared.pending.Pending.TheInside.{Inside}
 use Rattle.urb_pending.proofs.InsertedPairs.{inserted_at}
-use Rattle.urb_pending.proofs.PreservedSets.{own_next, own_kept, still_pending_set}
+use Rattle.urb_pending.proofs.PreservedSets.{own_kept, own_next, still_pending_set}
 use Rattle.urb_pending.proofs.IndexGrowth.{index_grows, index_same}
 
 -- a pair goes to its place among entries

@@ -1,21 +1,16 @@
 -- A pending set preserves its invariant when a pair is added.
-use Rattle.std.proofs.Common.{◌≡◌, ℕ, suc, ◌+◌, ◌≤◌, true, false, ◌==◌, List, [], ◌∷◌, ◌++◌, map}
-use Rattle.std.proofs.Common.{length, None, sym, ap, ◌∙◌, subst, ⊎_elim, arith, eqb-true, eq-eqb}
-use Rattle.std.proofs.Common.{lt-ltb, nat_lt}
-use Rattle.std.specs.Prelude.{nat_le}
-use Rattle.std.specs.List.{list_all}
-use Rattle.std.proofs.lemmas.Bool.{and_from, cases_Bool, le-leb}
-use Rattle.std.proofs.lemmas.List.{map-append, length-append}
-use Rattle.urb_names.specs.LabelsAndContents.{Limits, Label, Content, IsLabel}
-use Rattle.urb_names.specs.Nodes.{is_node}
-use Rattle.urb_names.specs.Names.{name, names, name_lt}
-use Rattle.urb_names.specs.Release.{part_of}
-use Rattle.urb_names.specs.Pairs.{own, message_of, next_number}
-use Rattle.urb_names.specs.CyclicOrder.{inserted}
-use Rattle.urb_pending.specs.PendingSet.{PendingSet, IsPendingSet, added, is_within}
+use Rattle.urb_pending.proofs.Common.{Content, IsLabel, IsPendingSet, Label, Limits, List, None}
+use Rattle.urb_pending.proofs.Common.{PendingSet, [], and_from, ap, arith, eq-eqb, false, inserted}
+use Rattle.urb_pending.proofs.Common.{is_node, is_within, length, length-append, list_all, lt-ltb}
+use Rattle.urb_pending.proofs.Common.{map, map-append, message_of, name, name_lt, names, nat_le}
+use Rattle.urb_pending.proofs.Common.{nat_lt, next_number, own, part_of, subst, suc, sym, true, ℕ}
+use Rattle.urb_pending.proofs.Common.{⊎_elim, ◌++◌, ◌+◌, ◌==◌, ◌∙◌, ◌∷◌, ◌≡◌, ◌≤◌}
+use Rattle.std.proofs.Common.{eqb-true}
+use Rattle.std.proofs.lemmas.Bool.{cases_Bool, le-leb}
+use Rattle.urb_pending.specs.PendingSet.{added}
 use Rattle.urb_pending.proofs.InsertedPairs.{all_inserted, rising_inserted}
-use Rattle.urb_pending.proofs.OwnPairs.{mine, own_mine, part_mine, mine_other, mine_inserted}
-use Rattle.urb_pending.proofs.OwnPairs.{mine_before, new_behind, names_more}
+use Rattle.urb_pending.proofs.OwnPairs.{mine, mine_before, mine_inserted, mine_other, names_more}
+use Rattle.urb_pending.proofs.OwnPairs.{new_behind, own_mine, part_mine}
 
 within : (limits : Limits) (x : Label) → IsLabel x → x.sender ≤ limits.n → x.seq ≤ limits.cap
     → is_within limits x ≡ true

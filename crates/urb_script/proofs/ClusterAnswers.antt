@@ -1,55 +1,44 @@
 -- What a cluster with stores in memory answers is an answer to the line of the script.
-use Rattle.std.proofs.Common.{◌≡◌, ◌≢◌, ◌⊎◌, inl, inr, ℕ, zero, suc, ◌-◌, Bool, true, false, ◌&&◌}
-use Rattle.std.proofs.Common.{List, ◌∷◌, [], ◌++◌, Option, Some, None, Result, Ok, Err, refl, sym}
-use Rattle.std.proofs.Common.{ap, ap₂, ◌∙◌, subst}
-use Rattle.urb_names.specs.LabelsAndContents.{Limits, Content, Label}
-use Rattle.urb_names.specs.Nodes.{is_node}
-use Rattle.urb_names.specs.declared.refusal.Refusal.TheVariants as refusal
-use Rattle.std.specs.Prelude.{length, ◌+◌, IfOk, OnOk, slice_get, slice_index_or}
-use Rattle.urb_stable.specs.Entries.{Entry}
+use Rattle.urb_script.proofs.Common.{All, Bool, Carried, Clustered, Command, Content, Entry, Err}
+use Rattle.urb_script.proofs.Common.{Event, Failure, Flags, Gives, IfOk, IsHeldBy, Label, Limits}
+use Rattle.urb_script.proofs.Common.{List, Memory, New, None, Ok, Old, OnOk, Option, Placed, Plays}
+use Rattle.urb_script.proofs.Common.{Refused, Reply, Result, Scene, Shows, ShowsScene, Some, State}
+use Rattle.urb_script.proofs.Common.{Steps, StoreMoves, Takes, [], answer, ap, ap₂, empty_memory}
+use Rattle.urb_script.proofs.Common.{false, happens, held_draft, in_memory, inl, inr, is_down}
+use Rattle.urb_script.proofs.Common.{is_node, length, new_scene, opened_node, refl, refusal_of}
+use Rattle.urb_script.proofs.Common.{reply_text, slice_index_or, subst, suc, sym, told_text, true}
+use Rattle.urb_script.proofs.Common.{zero, ℕ, ◌&&◌, ◌++◌, ◌+◌, ◌-◌, ◌∙◌, ◌∷◌, ◌≡◌, ◌≢◌, ◌⊎◌}
+use Rattle.std.proofs.Common.{slice_get}
 use Rattle.urb_stable.specs.KeptDrafts.{Keeps}
-use Rattle.urb_stable.specs.MemoryStores.{Memory, armed_with, empty_memory}
-use Rattle.urb_stable.specs.PlacedRecords.{Placed}
-use Rattle.urb_stable.specs.StableStorage.{IsPlaced, is_out_of_place, is_place, refusal_of}
-use Rattle.urb_stable.specs.declared.memory.Failure.{Failure}
-use Rattle.urb_stable.specs.declared.memory.Failure.TheVariants.{Old, New}
+use Rattle.urb_stable.specs.MemoryStores.{armed_with}
+use Rattle.urb_stable.specs.StableStorage.{IsPlaced, is_out_of_place, is_place}
 use Rattle.urb_stable.specs.declared.stable.StoreFault.{StoreFault}
-use Rattle.urb_node.specs.Part.{State, opened_node}
-use Rattle.urb_node.specs.Replies.{Refused, Reply}
-use Rattle.urb_node.specs.Steps.{is_down}
-use Rattle.urb_world.specs.MemoryStores.{in_memory}
-use Rattle.urb_world.specs.Scenes.{Scene, flags_with, or_nothing}
-use Rattle.urb_world.specs.Step.{Arrive, Crash, Event, Submit, Tick}
-use Rattle.urb_world.specs.Step as event
-use Rattle.urb_group.specs.StoreQuestions.{Gives}
-use Rattle.urb_group.specs.GroupStores.{Clustered, held_draft}
+use Rattle.urb_world.specs.Scenes.{flags_with, or_nothing}
+use Rattle.urb_world.specs.Step.{Arrive, Crash, Submit, Tick}
 use Rattle.urb_group.specs.ClusterCalls.{Alone, Applies, Breaks, FailsHeld, RestartsBy, Returns}
-use Rattle.urb_group.specs.ClusterCalls.{StoreMoves, StoresHeld, is_fallen, stored_as}
-use Rattle.urb_group.specs.GroupCalls.{Steps, FindsMessage}
-use Rattle.urb_script.specs.Commands.{Command, Fail, Restart, Stored}
-use Rattle.urb_script.specs.internal.ShownScenes.{IsHeldBy, ShowsScene, StoresAsAsked}
-use Rattle.urb_script.specs.Steps.{Plays, Takes, answer, happens, new_scene, carried}
-use Rattle.urb_script.specs.Texts.{reply_text, told_text}
-use Rattle.std.specs.List.{All}
+use Rattle.urb_group.specs.ClusterCalls.{StoresHeld, is_fallen, stored_as}
+use Rattle.urb_group.specs.GroupCalls.{FindsMessage}
+use Rattle.urb_script.specs.Commands.{Fail, Restart, Stored}
+use Rattle.urb_script.specs.internal.ShownScenes.{StoresAsAsked}
+use Rattle.urb_script.specs.Steps.{carried}
 use Rattle.std.proofs.lemmas.Option.{slice_get_within}
-use Rattle.urb_group.specs.GroupViews.{Shows}
 use Rattle.urb_world.specs.World.{started}
-use Rattle.urb_script.specs.declared.answer_words.FixedAnswer.TheVariants as told
-use Rattle.urb_names.specs.CarriedPackets.{Carried}
 use Rattle.urb_names.specs.declared.refusal.PacketFault.{PacketFault}
 use Rattle.urb_names.specs.PacketGrammar.{IsPacket, packet_of, spelling}
-use Rattle.urb_names.specs.declared.flags.Flags.{Flags}
 use Rattle.urb_names.proofs.JudgedBytes.{packet_spelled}
-use Rattle.urb_script.specs.Commands as lines
-use Rattle.urb_script.specs.internal.CommandLines as made
 use Rattle.urb_script.specs.internal.CommandLines.{line_of}
 use Rattle.urb_script.specs.internal.ReplyTexts.{IsToldAs}
+use Rattle.urb_script.proofs.SceneSteps.{IsQuiet}
+use Rattle.urb_script.proofs.ClusterScenes.{GoesTo, kept, lost, not_down, quiet_scene, read}
+use Rattle.urb_script.proofs.ClusterScenes.{sure_before, took}
+use Rattle.std.proofs.lemmas.Bool.{and_parts}
+use Rattle.urb_names.specs.declared.refusal.Refusal.TheVariants as refusal
+use Rattle.urb_world.specs.Step as event
+use Rattle.urb_script.specs.declared.answer_words.FixedAnswer.TheVariants as told
+use Rattle.urb_script.specs.Commands as lines
+use Rattle.urb_script.specs.internal.CommandLines as made
 use Rattle.urb_group.specs.declared.command.Command as acts
 use Rattle.urb_group.specs.declared.command.Command.TheVariants as act
-use Rattle.urb_script.proofs.SceneSteps.{IsQuiet}
-use Rattle.urb_script.proofs.ClusterScenes.{GoesTo, kept, lost, not_down, quiet_scene, read, sure_before}
-use Rattle.urb_script.proofs.ClusterScenes.{took}
-use Rattle.std.proofs.lemmas.Bool.{and_parts}
 
 -- the line has this answer, and a scene that it leads to is shown
 abbrev pub TakesTo : Limits → Clustered Memory → Scene → Command → List ℕ → Type 0

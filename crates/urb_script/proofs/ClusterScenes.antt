@@ -1,44 +1,34 @@
 -- A cluster whose stores are in memory goes from scene to scene.
-use Rattle.std.proofs.Common.{◌≡◌, ◌≢◌, ℕ, zero, suc, ◌-◌, ◌<◌, Bool, true, false, cond, ◌&&◌, ◌==◌}
-use Rattle.std.proofs.Common.{List, [], ◌∷◌, ◌++◌, length, Option, Some, None, refl, sym, ap, ap₂}
-use Rattle.std.proofs.Common.{◌∙◌, subst, arith, eqb-true, eq-eqb}
-use Rattle.std.specs.Prelude.{slice_get, slice_set}
-use Rattle.std.proofs.lemmas.Bool.{cond_both, cond-true, cond-false, false≢true}
+use Rattle.urb_script.proofs.Common.{Bool, Cause, Clustered, Commit, Down, Entry, Event, GroupView}
+use Rattle.urb_script.proofs.Common.{IsContents, IsHeldBy, Limits, List, Memory, New, Node, None}
+use Rattle.urb_script.proofs.Common.{Old, Option, Placed, Ready, Refusal, Refused, Reply, Scene}
+use Rattle.urb_script.proofs.Common.{Shows, ShowsScene, Some, State, Steps, StoreMoves, Storing}
+use Rattle.urb_script.proofs.Common.{World, [], answer, ap, ap₂, arith, at_node, commits, cond}
+use Rattle.urb_script.proofs.Common.{cond-false, cond-true, cond_both, doubt, eq-eqb, eqb-true}
+use Rattle.urb_script.proofs.Common.{fails, false, false≢true, goes_down, happens, happens_with}
+use Rattle.urb_script.proofs.Common.{held_by, held_draft, is_down, is_node, keeps_record, length}
+use Rattle.urb_script.proofs.Common.{receipt, refl, reply_text, restarts_with, slice_set, step}
+use Rattle.urb_script.proofs.Common.{step-size, subst, suc, sym, true, updated, updated-at}
+use Rattle.urb_script.proofs.Common.{with_doubt, world_after, zero, ℕ, ◌&&◌, ◌++◌, ◌-◌, ◌<◌, ◌==◌}
+use Rattle.urb_script.proofs.Common.{◌∙◌, ◌∷◌, ◌≡◌, ◌≢◌}
+use Rattle.std.proofs.Common.{slice_get}
 use Rattle.std.proofs.lemmas.List.{length-set}
-use Rattle.urb_names.specs.LabelsAndContents.{Limits}
-use Rattle.urb_names.specs.Nodes.{is_node}
-use Rattle.urb_names.specs.declared.refusal.Refusal.{Refusal}
-use Rattle.urb_names.specs.declared.refusal.Refusal.TheVariants as refusal
-use Rattle.urb_stable.specs.Entries.{Entry}
-use Rattle.urb_stable.specs.MemoryStores.{Memory, with_doubt}
-use Rattle.urb_stable.specs.StableStorage.{IsContents}
-use Rattle.urb_stable.specs.PlacedRecords.{Placed}
-use Rattle.urb_stable.specs.declared.memory.Failure.TheVariants.{Old, New}
 use Rattle.urb_node.specs.CallEffects.{IsRefusedAs}
-use Rattle.urb_node.specs.Part.{Down, Node, Ready, State, Storing}
-use Rattle.urb_node.specs.Replies.{Drafted, Refused, Reply, Same, Sent, Stored, Up, WentDown}
-use Rattle.urb_node.specs.Steps.{commits, done, doubt, fails, goes_down, is_down, keeps_record}
-use Rattle.urb_node.specs.Steps.{next_position, restarts, restarts_with, same_record}
+use Rattle.urb_node.specs.Replies.{Drafted, Same, Sent, Stored, Up, WentDown}
+use Rattle.urb_node.specs.Steps.{done, next_position, restarts, same_record}
 use Rattle.urb_node.proofs.RestartReplies.{same_record-same}
-use Rattle.urb_group.specs.GroupCalls.{Steps}
-use Rattle.urb_world.specs.Scenes.{Scene, held_by, receipt}
-use Rattle.urb_group.specs.GroupViews.{GroupView, Shows, view_of}
-use Rattle.urb_world.specs.Step.{Commit, Event, Fail, Restart, at_node, step, world_after}
-use Rattle.urb_world.specs.World.{World, updated}
-use Rattle.urb_world.proofs.steps.OneNodeStep.{updated-at}
+use Rattle.urb_group.specs.GroupViews.{view_of}
+use Rattle.urb_world.specs.Step.{Fail, Restart}
 use Rattle.urb_world.proofs.safety.Refusals.{refused-stays}
-use Rattle.urb_group.specs.GroupStores.{Clustered, held_draft, held_in}
-use Rattle.urb_group.specs.ClusterCalls.{Reacts, StoreMoves}
-use Rattle.urb_script.specs.Commands as command
-use Rattle.urb_script.specs.internal.ShownScenes.{AreHeldBy, IsHeldBy, ShowsScene}
-use Rattle.urb_script.specs.Steps.{answer, happens, happens_with}
-use Rattle.urb_script.specs.Texts.{reply_text}
+use Rattle.urb_group.specs.GroupStores.{held_in}
+use Rattle.urb_group.specs.ClusterCalls.{Reacts}
+use Rattle.urb_script.specs.internal.ShownScenes.{AreHeldBy}
 use Rattle.urb_script.proofs.SceneSteps.{IsQuiet, kept_held, lost_held, quiet_step, restart_with}
 use Rattle.urb_script.proofs.SceneSteps.{stored_held}
-use Rattle.urb_node.specs.declared.cause.Cause.{Cause}
-use Rattle.urb_world.proofs.steps.DraftsInSteps.{step-size}
 use Rattle.urb_group.proofs.stops.NodeStoreInvariant.{down-in}
 use Rattle.urb_script.proofs.ReopenedClusters.{some_same}
+use Rattle.urb_names.specs.declared.refusal.Refusal.TheVariants as refusal
+use Rattle.urb_script.specs.Commands as command
 
 -- ---- a reply, and the world that is shown after it
 

@@ -1,13 +1,12 @@
 -- Words of hexadecimal digits, and the bytes that they encode.
-use Rattle.std.proofs.Common.{◌≡◌, ◌≢◌, ◌⊎◌, ◌↔◌, inl, inr, Bool, true, false, ℕ, suc, ◌+◌, ◌-◌}
-use Rattle.std.proofs.Common.{◌*◌, ◌/◌, ◌%◌, ◌<◌, ◌≤◌, List, [], ◌∷◌, ◌++◌, length, get_or, drop}
-use Rattle.std.proofs.Common.{refl, sym, ap, ap₂, ◌∙◌, subst, arith, append_assoc}
+use Rattle.urb_script.proofs.Common.{Bool, IsHexWord, IsTrue, List, [], ap, append_assoc, ap₂}
+use Rattle.urb_script.proofs.Common.{arith, bytes_of, drop, false, get_or, inl, inr, length}
+use Rattle.urb_script.proofs.Common.{nat_tests, refl, subst, suc, sym, true, ℕ, ◌%◌, ◌*◌, ◌++◌, ◌+◌}
+use Rattle.urb_script.proofs.Common.{◌-◌, ◌/◌, ◌<◌, ◌↔◌, ◌∙◌, ◌∷◌, ◌≡◌, ◌≢◌, ◌≤◌, ◌⊎◌}
 use Rattle.std.specs.List.{AllByRecursion}
-use Rattle.std.specs.Prelude.{IsTrue}
-use Rattle.std.proofs.lemmas.Bool.Decides.{nat_tests}
 use Rattle.std.proofs.lemmas.List.{drop_more}
-use Rattle.urb_script.specs.ByteWords.{IsDigit, AreDigits, IsHexWord}
-use Rattle.urb_script.specs.internal.HexDigits.{IsHexDigit, digit_value, byte_of, bytes_of, ArePairs}
+use Rattle.urb_script.specs.ByteWords.{AreDigits, IsDigit}
+use Rattle.urb_script.specs.internal.HexDigits.{ArePairs, IsHexDigit, byte_of, digit_value}
 
 -- ---- one digit
 

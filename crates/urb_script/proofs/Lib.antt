@@ -8,6 +8,7 @@
 -- The laws of all scripts come last: one outcome if no store is refused memory (`one_outcome`), and
 -- what logs show (`logs_are_safe`, `logs_agree`). They use that each line keeps the rules of a
 -- scene (`takes_kept`), and the safety of worlds, which `urb_world` proves.
+mod Common
 pub mod ClusterAnswers
 pub mod HexWords
 pub mod LogLaws

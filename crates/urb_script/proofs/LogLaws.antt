@@ -1,32 +1,25 @@
 -- Log lines show safe logs, which agree.
-use Rattle.std.proofs.Common.{◌≡◌, inl, inr, ⊎_elim, ℕ, List, [], ◌∷◌, ◌++◌, Option, Some, None}
-use Rattle.std.proofs.Common.{Bool, true, false, ◌==◌, filter, map, refl, sym, ap, ◌∙◌, subst}
-use Rattle.std.proofs.Common.{append_assoc}
+use Rattle.urb_script.proofs.Common.{Answers, ArriveFlagged, Bool, Command, Content, Entry, Event}
+use Rattle.urb_script.proofs.Common.{Group, Held, Label, List, Log, Misfit, New, None, Old, Option}
+use Rattle.urb_script.proofs.Common.{Plays, Raw, Reopen, Scene, Some, Spells, Takes, World, []}
+use Rattle.urb_script.proofs.Common.{answer, ap, append_assoc, entries, false, first_misfit, inl}
+use Rattle.urb_script.proofs.Common.{inr, log, map, message_of, pend, refl, reopens, shown_log}
+use Rattle.urb_script.proofs.Common.{step, stored, subst, sym, true, ℕ, ⊎_elim, ◌++◌, ◌==◌, ◌∙◌}
+use Rattle.urb_script.proofs.Common.{◌∷◌, ◌≡◌}
+use Rattle.std.proofs.Common.{filter}
 use Rattle.std.proofs.lemmas.List.Elements.{filter-append}
 use Rattle.urb_names.specs.ListPrefixes.{Begins, OneBegins}
-use Rattle.urb_names.specs.LabelsAndContents.{Content, Label}
-use Rattle.urb_names.specs.Pairs.{message_of}
 use Rattle.urb_names.specs.Release.{part_of}
-use Rattle.urb_stable.specs.Entries.{Entry}
-use Rattle.urb_stable.specs.Fitting.{first_misfit}
-use Rattle.urb_stable.specs.DeliveredLogs.{entries, entries_of, log}
-use Rattle.urb_stable.specs.Records.{pend}
-use Rattle.urb_stable.specs.declared.fitting.Misfit.{Misfit}
-use Rattle.urb_stable.specs.declared.memory.Failure.TheVariants.{Old, New}
+use Rattle.urb_stable.specs.DeliveredLogs.{entries_of}
 use Rattle.urb_world.proofs.safety.AgreeingLogs.{agree-now, both_begin, entries-all_grow}
 use Rattle.urb_world.proofs.steps.Growth.{begins-itself, begins-trans, step-goes_on}
 use Rattle.urb_world.proofs.safety.SafeWorlds.{safe}
 use Rattle.urb_world.proofs.stops.StoppedWorlds.{survives}
 use Rattle.urb_world.specs.RunMoments.{EntriesGrow}
 use Rattle.urb_world.specs.SafetyProperties.{Safe}
-use Rattle.urb_world.specs.Scenes.{Scene}
-use Rattle.urb_world.specs.Step.{Event, step}
-use Rattle.urb_world.specs.World.{World, stored}
-use Rattle.urb_script.specs.Commands.{Arrive, ArriveFlagged, Command, Crash, Fail, Group, Held, Log}
-use Rattle.urb_script.specs.Commands.{Raw, Reopen, Restart, Spells, Stored, Submit, Tick}
+use Rattle.urb_script.specs.Commands.{Arrive, Crash, Fail, Restart, Stored, Submit, Tick}
 use Rattle.urb_script.specs.LogLines.{LogsAgree, LogsAreSafe}
-use Rattle.urb_script.specs.Scripts.{Answers, StaysSafe}
-use Rattle.urb_script.specs.Steps.{Plays, Takes, answer, reopens, shown_log}
+use Rattle.urb_script.specs.Scripts.{StaysSafe}
 use Rattle.urb_script.proofs.Outcomes.{spells_one}
 use Rattle.urb_script.proofs.SceneRules.{IsKeptScene, answers_kept, plays_answer, takes_kept}
 

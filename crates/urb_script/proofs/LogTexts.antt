@@ -1,23 +1,16 @@
 -- What is written of a node's log, and of the nodes that have a name.
-use Rattle.std.proofs.Common.{◌≡◌, ℕ, suc, ◌+◌, ◌-◌, ◌≤◌, Bool, true, false, cond, ◌&&◌, List, []}
-use Rattle.std.proofs.Common.{◌∷◌, ◌++◌, Some, None, Result, Ok, Err, map, refl, sym, ap, ◌∙◌}
-use Rattle.std.proofs.Common.{arith, append_assoc, append-nil}
-use Rattle.std.specs.Prelude.{OnOk, codes}
-use Rattle.std.specs.List.{filter, flat_map}
-use Rattle.std.specs.Option.{is_some}
-use Rattle.std.specs.Fmt.{decimal}
-use Rattle.std.proofs.lemmas.Bool.{cond-true, cond-false, lt-ltb}
-use Rattle.urb_names.specs.LabelsAndContents.{Label}
-use Rattle.urb_names.specs.Nodes.{is_node, numbers_from}
-use Rattle.urb_names.specs.Pairs.{message_of}
-use Rattle.urb_stable.specs.DeliveredLogs.{entries, log}
-use Rattle.urb_stable.specs.Records.{pend}
+use Rattle.urb_script.proofs.Common.{Bool, Err, GroupView, Label, List, None, Ok, OnOk, Result}
+use Rattle.urb_script.proofs.Common.{Shows, Some, World, [], ap, append-nil, append_assoc, arith}
+use Rattle.urb_script.proofs.Common.{codes, cond, cond-false, cond-true, decimal, entries}
+use Rattle.urb_script.proofs.Common.{entry_text, false, flat_map, is_node, is_some, log, map}
+use Rattle.urb_script.proofs.Common.{message_of, numbers_from, pend, refl, shown_log, stored, suc}
+use Rattle.urb_script.proofs.Common.{sym, true, ℕ, ◌&&◌, ◌++◌, ◌+◌, ◌-◌, ◌∙◌, ◌∷◌, ◌≡◌, ◌≤◌}
+use Rattle.std.specs.List.{filter}
+use Rattle.std.proofs.lemmas.Bool.{lt-ltb}
 use Rattle.urb_group.specs.GroupCalls.{Holds, TellsLog}
-use Rattle.urb_group.specs.GroupViews.{GroupView, Shows}
-use Rattle.urb_world.specs.World.{World, stored}
 use Rattle.urb_script.specs.internal.ShownScenes.{TellsAt, TellsOf}
-use Rattle.urb_script.specs.Steps.{bad_node, shown_log}
-use Rattle.urb_script.specs.Texts.{entry_text, log_text}
+use Rattle.urb_script.specs.Steps.{bad_node}
+use Rattle.urb_script.specs.Texts.{log_text}
 
 -- ---- a log
 

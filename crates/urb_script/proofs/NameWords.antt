@@ -1,11 +1,8 @@
 -- Names as words: a node's digit, a full stop, and the number.
-use Rattle.std.proofs.Common.{◌≡◌, ℕ, ◌+◌, ◌-◌, ◌<◌, ◌≤◌, List, [], ◌∷◌, ◌++◌, length, length-drop}
-use Rattle.std.proofs.Common.{get_or, take, drop, sym, ap, ◌∙◌, arith}
-use Rattle.std.specs.Fmt.{decimal}
-use Rattle.std.proofs.lemmas.Fmt.{decimal_digit}
+use Rattle.urb_script.proofs.Common.{IsLabel, Label, List, [], ap, arith, decimal, decimal_digit}
+use Rattle.urb_script.proofs.Common.{drop, get_or, length, length-drop, name_text, sym, take, ℕ}
+use Rattle.urb_script.proofs.Common.{◌++◌, ◌+◌, ◌-◌, ◌<◌, ◌∙◌, ◌∷◌, ◌≡◌, ◌≤◌}
 use Rattle.std.proofs.lemmas.List.{take_all}
-use Rattle.urb_names.specs.LabelsAndContents.{Label, IsLabel}
-use Rattle.urb_script.specs.ValueWords.{name_text}
 
 -- a name's word
 spelled : (x : Label) → IsLabel x → name_text x ≡ (48 + x.sender) ∷ 46 ∷ decimal x.seq

@@ -1,31 +1,23 @@
 -- A script has only one outcome.
-use Rattle.std.proofs.Common.{◌≡◌, ℕ, true, suc, ◌+◌, ◌≤◌, List, [], ◌∷◌, ◌++◌, length, get_or}
-use Rattle.std.proofs.Common.{Option, Some, None, refl, sym, ap, ap₂, ◌∙◌, subst, arith}
-use Rattle.std.proofs.Common.{append_assoc}
-use Rattle.std.specs.Fmt.{decimal}
-use Rattle.std.proofs.lemmas.Fmt.{decimal_injective}
-use Rattle.std.specs.Str.{bytes_eq}
-use Rattle.std.specs.Prelude.{codes}
+use Rattle.urb_script.proofs.Common.{Answers, AreArguments, ArriveFlagged, BadLine, Command}
+use Rattle.urb_script.proofs.Common.{Failure, Flags, Group, Held, InRange, IsBad, IsHexWord}
+use Rattle.urb_script.proofs.Common.{IsLabel, IsNodeNumber, IsSpelled, Label, List, Log, New, None}
+use Rattle.urb_script.proofs.Common.{Old, Option, Plays, Raw, Reopen, Scene, Some, Spells, []}
+use Rattle.urb_script.proofs.Common.{answer, ap, append_assoc, ap₂, arith, bad_line, bytes_eq}
+use Rattle.urb_script.proofs.Common.{codes, decimal, decimal_injective, get_or, keyword, length}
+use Rattle.urb_script.proofs.Common.{name_text, refl, subst, suc, sym, true, words_of, ℕ, ◌++◌, ◌+◌}
+use Rattle.urb_script.proofs.Common.{◌∙◌, ◌∷◌, ◌≡◌, ◌≤◌}
 use Rattle.urb_names.proofs.FlagNumbers.{number_below, same_flags}
-use Rattle.urb_names.specs.LabelsAndContents.{Label, IsLabel}
 use Rattle.urb_names.specs.PacketGrammar.{flags_number}
-use Rattle.urb_names.specs.declared.flags.Flags.{Flags}
-use Rattle.urb_stable.specs.declared.memory.Failure.{Failure}
-use Rattle.urb_stable.specs.declared.memory.Failure.TheVariants.{Old, New}
-use Rattle.urb_script.specs.Lines.{words_of}
-use Rattle.urb_script.specs.ByteWords.{IsHexWord}
-use Rattle.urb_script.specs.ValueWords.{IsNodeNumber, HasWord, payload_word, failure_word, name_text}
+use Rattle.urb_script.specs.ValueWords.{HasWord, failure_word, payload_word}
 use Rattle.urb_script.proofs.HexWords.{same_bytes}
 use Rattle.urb_script.proofs.NameWords.{name_sender, name_seq}
 use Rattle.urb_script.proofs.Spellings.{test}
-use Rattle.urb_world.specs.Scenes.{Scene}
-use Rattle.urb_script.specs.Commands.{Command, Group, Submit, Stored, Fail, Crash, Restart, Arrive}
-use Rattle.urb_script.specs.Commands.{ArriveFlagged, IsRoute, Raw, Tick, Log, Held, Reopen, keyword}
-use Rattle.urb_script.specs.Commands.{AreArguments, IsSpelled, InRange, Spells}
-use Rattle.urb_script.specs.Steps.{Plays, MayCome, answer}
-use Rattle.urb_script.specs.Scripts.{Answers, Ends, IsBad, HasOneOutcome, bad_line}
+use Rattle.urb_script.specs.Commands.{Arrive, Crash, Fail, IsRoute, Restart, Stored, Submit, Tick}
+use Rattle.urb_script.specs.Steps.{MayCome}
+use Rattle.urb_script.specs.Scripts.{Ends, HasOneOutcome}
 use Rattle.urb_script.specs.declared.runs.RunEnd.{RunEnd}
-use Rattle.urb_script.specs.declared.runs.RunEnd.TheVariants.{Whole, BadLine}
+use Rattle.urb_script.specs.declared.runs.RunEnd.TheVariants.{Whole}
 
 -- ---- a line spells one command
 

@@ -1,25 +1,19 @@
 -- A script so far: what was read, answered and written.
-use Rattle.std.proofs.Common.{inl, inr, ◌⊎◌, ◌≡◌, ℕ, ◌+◌, List, [], ◌∷◌, ◌++◌, Option, Some, None}
-use Rattle.std.proofs.Common.{true, false, length, refl, sym, ap, ◌∙◌, subst, append_assoc}
-use Rattle.std.proofs.Common.{append-nil, length-append, arith}
-use Rattle.std.specs.Option.{IfSome, is_some}
-use Rattle.std.specs.Prelude.{IsSomeAnd}
+use Rattle.urb_script.proofs.Common.{Answers, BadLine, Command, Group, IfSome, IsBad, IsOneLine}
+use Rattle.urb_script.proofs.Common.{IsSomeAnd, Limits, List, None, Option, ReadsLine, Scene, Some}
+use Rattle.urb_script.proofs.Common.{Spells, Takes, TookPart, [], ap, append-nil, append_assoc}
+use Rattle.urb_script.proofs.Common.{arith, bad_line, false, inl, inr, is_some, length}
+use Rattle.urb_script.proofs.Common.{length-append, lines_of, refl, subst, sym, true, ℕ, ◌++◌, ◌+◌}
+use Rattle.urb_script.proofs.Common.{◌∙◌, ◌∷◌, ◌≡◌, ◌⊎◌}
 use Rattle.std.specs.Io.KnownBytes.{Appends}
 use Rattle.std.proofs.KnownBytes.{Appends-nil, Appends-trans}
-use Rattle.urb_script.specs.declared.input.LineRead.TheVariants as read
-use Rattle.urb_script.specs.declared.runs.RunEnd.TheVariants.{Whole, BadLine}
-use Rattle.urb_script.specs.Lines.{lines_of, IsOneLine}
-use Rattle.urb_script.specs.internal.LineReads.{ReadsLine, TookPart}
+use Rattle.urb_script.specs.declared.runs.RunEnd.TheVariants.{Whole}
 use Rattle.urb_script.specs.declared.runs.RunFault.{RunFault}
-use Rattle.urb_script.specs.declared.runs.RunFault.TheVariants as faults
-use Rattle.urb_names.specs.LabelsAndContents.{Limits}
-use Rattle.urb_script.specs.Commands.{Command, Group, Spells}
-use Rattle.urb_world.specs.Scenes.{Scene}
-use Rattle.urb_script.specs.Steps.{Takes}
-use Rattle.urb_script.specs.Scripts.{Answers, IsBad, bad_line, WholeScript, StopsAfter, BrokenOff}
-use Rattle.urb_script.specs.Scripts.{BreaksOff}
+use Rattle.urb_script.specs.Scripts.{BreaksOff, BrokenOff, StopsAfter, WholeScript}
 use Rattle.urb_script.specs.internal.LineAnswers.{Answered, AnsweredFrom, OpensWith, ShowsSome}
 use Rattle.urb_script.specs.internal.LineAnswers.{TakesFrom}
+use Rattle.urb_script.specs.declared.input.LineRead.TheVariants as read
+use Rattle.urb_script.specs.declared.runs.RunFault.TheVariants as faults
 
 record Progress (input : List ℕ) (before after known : Option (List ℕ)) (count : ℕ)
     (state : Option Scene) : Type 0 where

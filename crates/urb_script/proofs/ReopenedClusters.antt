@@ -1,39 +1,26 @@
 -- A cluster whose stores are in memory, opened again.
-use Rattle.std.proofs.Common.{◌≡◌, ◌⊎◌, inl, inr, ⊎_elim, ltb-true, nat_lt, ◌&&◌, ℕ, zero, suc, ◌-◌}
-use Rattle.std.proofs.Common.{◌<◌, ◌≤◌, Bool, true, false, List, [], ◌∷◌, ◌++◌, length, Option}
-use Rattle.std.proofs.Common.{Some, None, Ok, Err, refl, sym, ap, ◌∙◌, subst, arith, le_refl}
-use Rattle.std.proofs.lemmas.Bool.{cases_lt, false≢true}
-use Rattle.std.specs.Prelude.{slice_get, slice_index_or}
-use Rattle.urb_names.specs.LabelsAndContents.{Limits}
-use Rattle.urb_names.specs.Nodes.{is_node}
-use Rattle.urb_names.specs.declared.refusal.Refusal.{Refusal}
-use Rattle.urb_names.specs.declared.refusal.Refusal.TheVariants as refusal
-use Rattle.urb_stable.specs.Entries.{Entry}
-use Rattle.urb_stable.specs.Fitting.{first_misfit, first_of_all, misfits}
-use Rattle.urb_stable.specs.declared.fitting.Misfit.{Misfit}
-use Rattle.urb_stable.specs.MemoryStores.{Memory, with_doubt}
-use Rattle.urb_stable.specs.StableStorage.{refusal_of}
-use Rattle.urb_node.specs.Part.{opened_node}
-use Rattle.urb_group.specs.StoreQuestions.{Gives}
-use Rattle.urb_group.specs.GroupStores.{Clustered}
+use Rattle.urb_script.proofs.Common.{Bool, Clustered, CommandLine, Entry, Err, Gives, IsHeldBy}
+use Rattle.urb_script.proofs.Common.{Limits, List, Memory, Misfit, None, Ok, Option, Refusal}
+use Rattle.urb_script.proofs.Common.{Reopen, Scene, Shows, ShowsScene, Some, Takes, World, [], ap}
+use Rattle.urb_script.proofs.Common.{arith, false, false≢true, first_misfit, in_memory, inl, inr}
+use Rattle.urb_script.proofs.Common.{is_node, le_refl, length, nat_lt, opened_node, refl}
+use Rattle.urb_script.proofs.Common.{refusal_of, reopens, slice_index_or, subst, suc, sym}
+use Rattle.urb_script.proofs.Common.{told_text, true, with_doubt, zero, ℕ, ⊎_elim, ◌&&◌, ◌++◌, ◌-◌}
+use Rattle.urb_script.proofs.Common.{◌<◌, ◌∙◌, ◌∷◌, ◌≡◌, ◌≤◌, ◌⊎◌}
+use Rattle.std.proofs.Common.{ltb-true, slice_get}
+use Rattle.std.proofs.lemmas.Bool.{cases_lt}
+use Rattle.urb_stable.specs.Fitting.{first_of_all, misfits}
 use Rattle.urb_group.specs.GroupCalls.{Opens}
-use Rattle.urb_world.specs.MemoryStores.{in_memory}
 use Rattle.urb_group.specs.StoreOpenings.{AllGive, OpensFrom, OpensGiven}
-use Rattle.urb_world.specs.Scenes.{Scene}
-use Rattle.urb_group.specs.GroupViews.{Shows}
 use Rattle.urb_world.specs.StartLimits.{MayStartWith}
-use Rattle.urb_world.specs.World.{World, image_of, opened}
-use Rattle.urb_script.specs.Commands.{Reopen}
+use Rattle.urb_world.specs.World.{image_of, opened}
 use Rattle.urb_script.specs.internal.CommandLines.{command}
-use Rattle.urb_script.specs.declared.commands.CommandLine.{CommandLine}
-use Rattle.urb_script.specs.declared.commands.CommandLine.TheVariants as line
 use Rattle.urb_script.proofs.LogTexts.{node_within}
-use Rattle.urb_script.specs.internal.ShownScenes.{IsHeldBy, ShowsScene}
-use Rattle.urb_script.specs.Steps.{Takes, reopens}
-use Rattle.urb_script.specs.Texts.{told_text}
-use Rattle.urb_script.specs.declared.answer_words.FixedAnswer.TheVariants as told
 use Rattle.urb_world.proofs.steps.Runs.{past_end}
 use Rattle.urb_names.proofs.Places.{get_some}
+use Rattle.urb_names.specs.declared.refusal.Refusal.TheVariants as refusal
+use Rattle.urb_script.specs.declared.commands.CommandLine.TheVariants as line
+use Rattle.urb_script.specs.declared.answer_words.FixedAnswer.TheVariants as told
 
 -- values are the same if they are so as options
 pub some_same : {X : Type 0} {x y : X} → Some x ≡ Some y → x ≡ y

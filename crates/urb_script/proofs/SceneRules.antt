@@ -1,42 +1,26 @@
 -- What every line preserves in a scene.
-use Rattle.std.proofs.Common.{◌≡◌, inl, inr, ℕ, Bool, true, false, ◌&&◌, ◌==◌, List, [], ◌∷◌, ◌++◌}
-use Rattle.std.proofs.Common.{Option, Some, None, refl, sym, ap, ◌∙◌, subst, append-nil, eqb-true}
-use Rattle.std.proofs.lemmas.Bool.{cond_both, false≢true}
-use Rattle.urb_names.specs.LabelsAndContents.{Limits}
-use Rattle.urb_names.specs.Nodes.{is_node}
-use Rattle.urb_names.specs.declared.refusal.Refusal.TheVariants as refusal
-use Rattle.urb_stable.specs.Entries.{Entry}
-use Rattle.urb_stable.specs.Fitting.{first_misfit}
-use Rattle.urb_stable.specs.MemoryStores.{Memory, empty_memory}
-use Rattle.urb_stable.specs.Records.{pend}
-use Rattle.urb_stable.specs.StableStorage.{IsContents}
-use Rattle.urb_stable.specs.declared.fitting.Misfit.{Misfit}
-use Rattle.urb_stable.specs.declared.memory.Failure.TheVariants.{Old, New}
-use Rattle.urb_node.specs.Part.{Down, Node, Ready, State, Storing}
-use Rattle.urb_node.specs.Replies.{Refused, Reply}
-use Rattle.urb_node.specs.Steps.{commits, doubt, fails, goes_down, is_down, keeps_record}
-use Rattle.urb_node.specs.Steps.{restarts_with}
-use Rattle.urb_world.proofs.steps.OneNodeStep.{updated-at}
+use Rattle.urb_script.proofs.Common.{Answers, Bool, Cause, Command, Commit, Down, Entry, Event}
+use Rattle.urb_script.proofs.Common.{Group, IsContents, IsHeldBy, Limits, List, Memory, Misfit, New}
+use Rattle.urb_script.proofs.Common.{Node, None, Old, Option, Plays, Ready, Refused, Reply, Scene}
+use Rattle.urb_script.proofs.Common.{Some, State, Storing, Takes, World, [], answer, ap, append-nil}
+use Rattle.urb_script.proofs.Common.{at_node, commits, cond_both, doubt, empty_memory, eqb-true}
+use Rattle.urb_script.proofs.Common.{event_node, fails, false, false≢true, first_misfit, goes_down}
+use Rattle.urb_script.proofs.Common.{happens, happens_with, held_by, inl, inr, is_down, is_node}
+use Rattle.urb_script.proofs.Common.{keeps_record, new_scene, pend, receipt, refl, reopens}
+use Rattle.urb_script.proofs.Common.{restarts_with, step, step-size, stored, subst, sym, true}
+use Rattle.urb_script.proofs.Common.{updated, updated-at, world_after, ℕ, ◌&&◌, ◌++◌, ◌==◌, ◌∙◌}
+use Rattle.urb_script.proofs.Common.{◌∷◌, ◌≡◌}
 use Rattle.urb_world.proofs.steps.Runs.{new-kept, opened-keeps, run-kept}
 use Rattle.urb_world.proofs.steps.ShortPayloads.{opened-short, short-append}
 use Rattle.urb_world.proofs.stops.StoppedWorlds.{left-kept}
 use Rattle.urb_world.specs.RunInvariant.{AreShort, DoubtShort, IsKept}
-use Rattle.urb_world.specs.Scenes.{Scene, held_by, receipt}
-use Rattle.urb_world.specs.Step.{Arrive, Commit, Crash, Event, Fail, Restart, Submit, Tick, at_node}
-use Rattle.urb_world.specs.Step.{run, step, world_after}
-use Rattle.urb_world.specs.World.{World, stored, updated}
-use Rattle.urb_script.specs.Commands as command
-use Rattle.urb_script.specs.Commands.{Command, Group}
-use Rattle.urb_script.specs.Scripts.{Answers}
-use Rattle.urb_script.specs.internal.ShownScenes.{IsHeldBy}
-use Rattle.urb_script.specs.Steps.{Plays, Takes, answer, happens, happens_with, new_scene, reopens}
+use Rattle.urb_world.specs.Step.{Arrive, Crash, Fail, Restart, Submit, Tick, run}
 use Rattle.urb_script.proofs.SceneSteps.{IsQuiet, kept_held, quiet_step, restart_with, stored_held}
 use Rattle.urb_script.proofs.ClusterScenes.{commit_node, elsewhere, fail_node, restart_node}
 use Rattle.urb_script.proofs.ClusterScenes.{restart_stays}
-use Rattle.urb_node.specs.declared.cause.Cause.{Cause}
 use Rattle.urb_world.proofs.steps.StepCases.{outcome_of, step-cases}
-use Rattle.urb_world.specs.EventEffects.{event_node}
-use Rattle.urb_world.proofs.steps.DraftsInSteps.{step-size}
+use Rattle.urb_names.specs.declared.refusal.Refusal.TheVariants as refusal
+use Rattle.urb_script.specs.Commands as command
 
 -- The world meets its rules. Each storage is what some store of its node may hold. A number that is
 -- no node is idle.

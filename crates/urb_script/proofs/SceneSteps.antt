@@ -1,25 +1,17 @@
 -- What each event leaves of the stores' agreement with a scene.
-use Rattle.std.proofs.Common.{◌≡◌, ◌⊎◌, inl, inr, ℕ, Bool, true, false, not, ◌&&◌, ◌==◌, List, []}
-use Rattle.std.proofs.Common.{◌∷◌, ◌++◌, length, Option, Some, None, refl, sym, ap, ◌∙◌, subst}
-use Rattle.std.proofs.Common.{arith, eqb-true, length-append}
-use Rattle.std.proofs.lemmas.Bool.{cond_both, false≢true}
-use Rattle.urb_names.specs.LabelsAndContents.{Content}
-use Rattle.urb_stable.specs.Entries.{Entry}
-use Rattle.urb_stable.specs.MemoryStores.{Memory, with_doubt}
-use Rattle.urb_stable.specs.Records.{cert, pend}
-use Rattle.urb_stable.specs.DeliveredLogs.{log}
-use Rattle.urb_stable.specs.StableStorage.{IsContents}
-use Rattle.urb_node.specs.Part.{Down, Node, State}
-use Rattle.urb_node.specs.Replies.{Reply}
-use Rattle.urb_node.specs.Steps.{broadcast_after, comes_up, doubt, is_down, keeps_record}
-use Rattle.urb_node.specs.Steps.{restarts_with, same_list, same_names, same_pairs, says, takes}
-use Rattle.urb_world.specs.World.{World}
-use Rattle.urb_world.specs.Step.{Arrive, Commit, Crash, Event, Fail, Restart, Submit, Tick, step}
-use Rattle.urb_script.specs.internal.ShownScenes.{IsHeldBy}
-use Rattle.urb_node.specs.declared.cause.Cause.{Cause}
+use Rattle.urb_script.proofs.Common.{Bool, Cause, Commit, Content, Down, Entry, Event, IsContents}
+use Rattle.urb_script.proofs.Common.{IsHeldBy, List, Memory, Node, None, Option, Reply, Some, State}
+use Rattle.urb_script.proofs.Common.{World, [], ap, arith, cond_both, doubt, eqb-true, event_node}
+use Rattle.urb_script.proofs.Common.{false, false≢true, inl, inr, is_down, keeps_record, length}
+use Rattle.urb_script.proofs.Common.{length-append, log, not, pend, refl, restarts_with, step}
+use Rattle.urb_script.proofs.Common.{subst, sym, true, with_doubt, ℕ, ◌&&◌, ◌++◌, ◌==◌, ◌∙◌, ◌∷◌}
+use Rattle.urb_script.proofs.Common.{◌≡◌, ◌⊎◌}
+use Rattle.urb_stable.specs.Records.{cert}
+use Rattle.urb_node.specs.Steps.{broadcast_after, comes_up, same_list, same_names, same_pairs, says}
+use Rattle.urb_node.specs.Steps.{takes}
+use Rattle.urb_world.specs.Step.{Arrive, Crash, Fail, Restart, Submit, Tick}
 use Rattle.urb_world.proofs.steps.StepCases.{OutcomeCases, node_of, outcome-cases, step-nodes}
 use Rattle.urb_world.proofs.steps.ArrivalCases.{arrive-cases}
-use Rattle.urb_world.specs.EventEffects.{event_node}
 
 -- ---- events that leave storage as it is
 

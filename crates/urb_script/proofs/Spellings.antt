@@ -1,26 +1,17 @@
 -- Words that are no command.
-use Rattle.std.proofs.Common.{◌≡◌, ◌≢◌, ℕ, ◌≤◌, ◌==◌, List, [], ◌∷◌, Option, Some, None, true}
-use Rattle.std.proofs.Common.{Bool, false, get_or, length, subst, sym, ◌∙◌, ap, arith}
-use Rattle.std.specs.Prelude.{IsTrue, ◌↔◌, codes}
-use Rattle.std.specs.Str.{bytes_eq}
-use Rattle.std.specs.Option.{IfNone, IfSome, is_some}
+use Rattle.urb_script.proofs.Common.{AreArguments, ArriveFlagged, Bool, Command, CommandLine}
+use Rattle.urb_script.proofs.Common.{Failure, Flags, Group, Held, IfSome, InRange, IsNodeNumber}
+use Rattle.urb_script.proofs.Common.{IsSpelled, IsTrue, Label, Limits, List, Log, None, Option, Raw}
+use Rattle.urb_script.proofs.Common.{Reopen, Some, [], ap, arith, bytes_eq, codes, decimal}
+use Rattle.urb_script.proofs.Common.{decimal_injective, false, get_or, is_some, keyword, length}
+use Rattle.urb_script.proofs.Common.{length-slice_split, subst, sym, true, words_left, words_of, ℕ}
+use Rattle.urb_script.proofs.Common.{◌==◌, ◌↔◌, ◌∙◌, ◌∷◌, ◌≡◌, ◌≢◌, ◌≤◌}
+use Rattle.std.specs.Option.{IfNone}
 use Rattle.std.specs.Borrow.{Bor}
-use Rattle.std.specs.Fmt.{decimal}
-use Rattle.std.proofs.lemmas.Fmt.{decimal_injective}
-use Rattle.std.proofs.lemmas.List.Splits.{length-slice_split}
 use Rattle.std.proofs.lemmas.Slice.Eq.{bytes_eq-Decides}
-use Rattle.urb_names.specs.declared.flags.Flags.{Flags}
 use Rattle.urb_names.specs.declared.limits.TheConstants.{MAX_NODES}
-use Rattle.urb_names.specs.LabelsAndContents.{Label, Limits}
-use Rattle.urb_stable.specs.declared.memory.Failure.{Failure}
-use Rattle.urb_script.specs.Lines.{words_of}
-use Rattle.urb_script.specs.internal.LineReads.{words_left}
-use Rattle.urb_script.specs.ValueWords.{IsNodeNumber}
-use Rattle.urb_script.specs.Commands.{Command, Arrive, ArriveFlagged, Crash, Fail, Group, Held, Log}
-use Rattle.urb_script.specs.Commands.{Raw, Reopen, Restart, Stored, Submit, Tick, AreArguments}
-use Rattle.urb_script.specs.Commands.{IsSpelled, InRange, keyword}
+use Rattle.urb_script.specs.Commands.{Arrive, Crash, Fail, Restart, Stored, Submit, Tick}
 use Rattle.urb_script.specs.internal.CommandLines.{HasNodeAlone, command}
-use Rattle.urb_script.specs.declared.commands.CommandLine.{CommandLine}
 
 -- a text has a word
 words_some : (text : List ℕ) → words_of text ≡ [] → ⊥

@@ -1,30 +1,18 @@
 -- What a node has stored at one place of the history is what every page shows at any other.
-use Rattle.std.proofs.Common.{Contains, List, Option, Some, [], ap, arith, map, refl, subst, suc}
-use Rattle.std.proofs.Common.{sym, true, zero, ℕ, ⊎_elim, ◌∙◌, ◌∷◌, ◌≡◌}
+use Rattle.urb_show.proofs.Common.{AreDeliveredBy, Contains, Content, Event, GroupView}
+use Rattle.urb_show.proofs.Common.{HaveDelivered, IsPrefix, IsSound, Label, List, Lists, OneBegins}
+use Rattle.urb_show.proofs.Common.{Option, Shows, Some, World, [], after, after-append, ap, arith}
+use Rattle.urb_show.proofs.Common.{entries, has_pair, has_pair-found, in_log, list_at, log, map}
+use Rattle.urb_show.proofs.Common.{message_of, pend, pend-append, refl, run, run-kept, sound-kept}
+use Rattle.urb_show.proofs.Common.{stored, subst, suc, sym, true, zero, ℕ, ⊎_elim, ◌∙◌, ◌∷◌, ◌≡◌}
 use Rattle.urb_world.proofs.safety.SafeWorlds.{one_message}
-use Rattle.urb_group.proofs.shown.AgreeingWorlds.{sound-kept}
 use Rattle.urb_world.proofs.steps.Growth.{run-goes_on}
-use Rattle.urb_world.proofs.steps.Runs.{run-kept}
 use Rattle.urb_world.specs.Acceptance.{HasStored}
-use Rattle.urb_group.specs.GroupViews.{GroupView, IsSound, Shows}
-use Rattle.urb_world.specs.RecoveryPlans.{after}
 use Rattle.urb_world.specs.RunInvariant.{IsKept}
-use Rattle.urb_world.specs.Step.{Event, run}
-use Rattle.urb_world.specs.World.{World, stored}
-use Rattle.urb_names.proofs.FoundPairs.{has_pair-found, has_pair-left}
-use Rattle.urb_names.specs.LabelsAndContents.{Content, Label}
-use Rattle.urb_names.specs.ListPrefixes.{OneBegins}
-use Rattle.urb_names.specs.Pairs.{has_pair, message_of}
-use Rattle.urb_stable.proofs.JoinedRecords.{pend-append}
-use Rattle.urb_stable.specs.DeliveredLogs.{entries, log}
+use Rattle.urb_names.proofs.FoundPairs.{has_pair-left}
 use Rattle.urb_stable.specs.Entries.{Entry as Record}
-use Rattle.urb_stable.specs.Records.{pend}
 use Rattle.urb_show.proofs.AgreeingPages.{in_map, in_prefix}
-use Rattle.urb_show.specs.DeliveredLists.{AreDeliveredBy, HaveDelivered, in_log}
-use Rattle.urb_show.specs.Lists.{Lists, list_at}
 use Rattle.urb_show.specs.declared.entry.Entry.{Entry}
-use mathlib.Core.List.{IsPrefix}
-use Rattle.urb_world.proofs.recovery.EventPlans.{after-append}
 
 -- the entries of a log have the messages that the records hold
 found_in : (records : List Record) (xs : List Label) (y : Label) (o : Option Content)

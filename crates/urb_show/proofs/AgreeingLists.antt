@@ -1,18 +1,15 @@
 -- Prefixes of lists that agree also agree; and lists with one more entry.
-use Rattle.std.proofs.Common.{List, [], ap, arith, inl, inr, length, map, refl, slice_index_or}
-use Rattle.std.proofs.Common.{subst, suc, sym, zero, ℕ, ⊎_elim, ◌++◌, ◌<◌, ◌==◌, ◌∙◌, ◌∷◌, ◌≡◌, ◌⊎◌}
-use Rattle.std.proofs.lemmas.List.Elements.{filter-append}
-use Rattle.urb_group.specs.DeliveredMessages.{Delivery, sent_by}
-use Rattle.urb_names.specs.Nodes.{numbers_from}
-use Rattle.urb_group.specs.GroupViews.{GroupView}
+use Rattle.urb_show.proofs.Common.{Agree, AgreeAcross, AreOfOneHistory, Delivery, GoesOn, GroupView}
+use Rattle.urb_show.proofs.Common.{IsPrefix, Learns, List, Lists, OneBeginsAll, ReaderView}
+use Rattle.urb_show.proofs.Common.{ToldView, [], add_at, ap, arith, delivery_of, filter-append, inl}
+use Rattle.urb_show.proofs.Common.{inr, length, list_at, map, numbers_from, refl, sent_by}
+use Rattle.urb_show.proofs.Common.{slice_index_or, subst, suc, sym, zero, ℕ, ⊎_elim, ◌++◌, ◌<◌}
+use Rattle.urb_show.proofs.Common.{◌==◌, ◌∙◌, ◌∷◌, ◌≡◌, ◌⊎◌}
 use Rattle.urb_show.proofs.Prefixes.{prefix_length, prefix_self, prefix_trans}
 use Rattle.urb_show.proofs.ListBeginnings.{begins_self, begins_trans}
-use Rattle.urb_show.specs.Readers.{AreOfOneHistory, GoesOn, HasLearnt, HasRead, ReaderView, Learns}
-use Rattle.urb_show.specs.Readers.{Rests, Takes, ToldView}
-use Rattle.urb_show.specs.Lists.{Agree, AgreeAcross, Begins, Lists, OneBeginsAll, add_at}
-use Rattle.urb_show.specs.Lists.{delivery_of, list_at}
+use Rattle.urb_show.specs.Readers.{HasLearnt, HasRead, Rests, Takes}
+use Rattle.urb_show.specs.Lists.{Begins}
 use Rattle.urb_show.specs.declared.entry.Entry.{Entry}
-use mathlib.Core.List.{IsPrefix}
 
 sent_prefix : (s : ℕ) (xs ys : List Delivery) → IsPrefix xs ys
     → IsPrefix (sent_by s xs) (sent_by s ys)

@@ -1,20 +1,16 @@
 -- Pages of lists of one history never show two different entries under one name.
-use Rattle.std.proofs.Common.{Bool, Contains, List, [], ap, arith, drop, false, length, map, refl}
-use Rattle.std.proofs.Common.{slice_index_or, subst, suc, sym, take, true, zero, ℕ, ⊎_elim, ◌+◌}
-use Rattle.std.proofs.Common.{◌-◌, ◌<◌, ◌==◌, ◌∙◌, ◌∷◌, ◌≡◌}
+use Rattle.urb_show.proofs.Common.{Agree, AgreeAcross, AreOfOneHistory, Bool, Contains, Delivery}
+use Rattle.urb_show.proofs.Common.{GoesOn, GroupView, IsPageOf, IsPrefix, List, Lists, ReaderView}
+use Rattle.urb_show.proofs.Common.{[], ap, arith, delivery_of, drop, entry_of, false, length}
+use Rattle.urb_show.proofs.Common.{list_at, map, nat_tests, numbers_from, refl, sent_by}
+use Rattle.urb_show.proofs.Common.{slice_index_or, subst, suc, sym, take, true, zero, ℕ, ⊎_elim}
+use Rattle.urb_show.proofs.Common.{◌+◌, ◌-◌, ◌<◌, ◌==◌, ◌∙◌, ◌∷◌, ◌≡◌}
 use Rattle.std.proofs.lemmas.List.{take-append-drop}
-use Rattle.std.proofs.lemmas.Bool.Decides.{nat_tests}
 use Rattle.std.proofs.lemmas.List.Elements.{Contains-append_left, Contains-append_right}
-use Rattle.urb_group.specs.DeliveredMessages.{Delivery, sent_by}
-use Rattle.urb_names.specs.Nodes.{numbers_from}
-use Rattle.urb_group.specs.GroupViews.{GroupView}
 use Rattle.urb_show.proofs.AgreeingLists.{agree_begins, earlier_across, goes_on_begins}
-use Rattle.urb_show.specs.Readers.{AreOfOneHistory, GoesOn, ReaderView}
-use Rattle.urb_show.specs.Lists.{Agree, AgreeAcross, Lists, delivery_of, entry_of, list_at}
-use Rattle.urb_show.specs.Pages.{IsPageOf, NeverContradict}
+use Rattle.urb_show.specs.Pages.{NeverContradict}
 use Rattle.urb_show.specs.declared.entry.Entry.{Entry}
 use Rattle.urb_show.specs.declared.entry.Page.{Page}
-use mathlib.Core.List.{IsPrefix}
 
 module _ {A : Type 0} where
   -- what is in a prefix of a list is in the list

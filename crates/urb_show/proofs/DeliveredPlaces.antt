@@ -1,26 +1,17 @@
 -- What the nodes have delivered at a place of the history, and at each later place.
-use Rattle.std.proofs.Common.{List, Option, [], ap, map, refl, subst, suc, sym, ◌∙◌, ◌∷◌, ◌≡◌}
+use Rattle.urb_show.proofs.Common.{AreDeliveredBy, Content, Delivery, Event, GroupView}
+use Rattle.urb_show.proofs.Common.{HaveDelivered, IsLedTo, IsPrefix, IsSound, Label, List, Lists}
+use Rattle.urb_show.proofs.Common.{Option, Shows, World, [], after, after-append, ap, delivered_at}
+use Rattle.urb_show.proofs.Common.{deliveries-known, entries, entry_of, in_log, known, list_at}
+use Rattle.urb_show.proofs.Common.{lists_in, map, refl, run, run-kept, sound-kept, stored, subst}
+use Rattle.urb_show.proofs.Common.{suc, sym, ◌∙◌, ◌∷◌, ◌≡◌}
 use Rattle.urb_world.proofs.safety.RunsOfKeptWorlds.{kept-grow}
-use Rattle.urb_group.proofs.shown.AgreeingWorlds.{sound-kept}
-use Rattle.urb_group.proofs.shown.Deliveries.{deliveries-known}
-use Rattle.urb_world.proofs.steps.Runs.{run-kept}
-use Rattle.urb_group.specs.DeliveredMessages.{Delivery, delivered_at, known}
-use Rattle.urb_group.specs.GroupViews.{GroupView, IsSound, Shows}
-use Rattle.urb_world.specs.RecoveryPlans.{after}
-use Rattle.urb_world.specs.Step.{Event, run}
-use Rattle.urb_world.specs.World.{World, stored}
-use Rattle.urb_names.specs.LabelsAndContents.{Content, Label}
-use Rattle.urb_stable.specs.DeliveredLogs.{entries}
 use Rattle.urb_show.proofs.AgreeingLists.{begins_at, map_prefix}
 use Rattle.urb_show.proofs.GroupLists.{list_in}
 use Rattle.urb_show.proofs.ListBeginnings.{begins_self}
 use Rattle.urb_show.proofs.PastEvents.{led_by_none}
 use Rattle.urb_show.proofs.Prefixes.{prefix_trans}
-use Rattle.urb_show.specs.DeliveredLists.{AreDeliveredBy, HaveDelivered, in_log}
-use Rattle.urb_show.specs.Lists.{Begins, Lists, entry_of, list_at, lists_in}
-use Rattle.urb_show.specs.Pasts.{IsLedTo}
-use mathlib.Core.List.{IsPrefix}
-use Rattle.urb_world.proofs.recovery.EventPlans.{after-append}
+use Rattle.urb_show.specs.Lists.{Begins}
 
 as_known : (list : List Delivery) → map in_log (map entry_of list) ≡ map known list
 as_known [] = refl

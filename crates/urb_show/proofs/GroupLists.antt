@@ -1,28 +1,20 @@
 -- The lists of a group: the list at a place, that the lists agree, and what an event does to them.
-use Rattle.std.proofs.Common.{Err, List, Ok, Result, [], ap, arith, length, map, refl}
-use Rattle.std.proofs.Common.{slice_index_or, subst, suc, sym, zero, ℕ, ◌-◌, ◌<◌, ◌∙◌, ◌∷◌, ◌≡◌}
-use Rattle.urb_world.proofs.steps.DraftsInSteps.{step-size}
+use Rattle.urb_show.proofs.Common.{Agree, Carried, ComesUp, Commit, Commits, Delivery, Done, Err}
+use Rattle.urb_show.proofs.Common.{Event, GoesDown, GroupView, IsHouse, IsPrefix, IsSound, List}
+use Rattle.urb_show.proofs.Common.{Lists, Ok, OneBegins, Placed, Refusal, Result, Taken, Ticks, []}
+use Rattle.urb_show.proofs.Common.{ap, arith, delivered_at, deliveries, delivery_of, entry_of}
+use Rattle.urb_show.proofs.Common.{length, list_at, lists_in, map, no_view, numbers_from, refl}
+use Rattle.urb_show.proofs.Common.{sent_by, slice_index_or, step-size, subst, suc, sym, zero, ℕ}
+use Rattle.urb_show.proofs.Common.{◌-◌, ◌<◌, ◌∙◌, ◌∷◌, ◌≡◌}
 use Rattle.urb_group.proofs.shown.Deliveries.{deliveries-grow, sound-after}
-use Rattle.urb_group.specs.GroupCalls.{ComesUp, Commits, GoesDown, Takes, Ticks}
-use Rattle.urb_group.specs.DeliveredMessages.{Agree as AgreeAll, Delivery, Follows, deliveries}
-use Rattle.urb_group.specs.DeliveredMessages.{delivered_at, sent_by}
-use Rattle.urb_group.specs.GroupViews.{GroupView, IsSound}
-use Rattle.urb_world.specs.Step.{Commit, Event}
-use Rattle.urb_group.specs.declared.taken.Taken.TheVariants as taken
-use Rattle.urb_group.specs.declared.taken.Taken.{Taken}
-use Rattle.urb_names.specs.ListPrefixes.{OneBegins}
-use Rattle.urb_names.specs.CarriedPackets.{Carried}
-use Rattle.urb_names.specs.Nodes.{numbers_from}
-use Rattle.urb_names.specs.declared.refusal.Refusal.{Refusal}
-use Rattle.urb_node.specs.Replies.{Done}
-use Rattle.urb_node.specs.NodeViews.{NodeView, no_view}
-use Rattle.urb_stable.specs.PlacedRecords.{Placed}
+use Rattle.urb_group.specs.GroupCalls.{Takes}
+use Rattle.urb_group.specs.DeliveredMessages.{Agree as AgreeAll, Follows}
+use Rattle.urb_node.specs.NodeViews.{NodeView}
 use Rattle.urb_show.proofs.AgreeingLists.{map_prefix}
 use Rattle.urb_show.proofs.ListBeginnings.{begins_trans}
-use Rattle.urb_show.specs.Lists.{Agree, Begins, Lists, delivery_of, entry_of, list_at, lists_in}
-use Rattle.urb_show.specs.internal.PreparedLists.{IsHouse}
+use Rattle.urb_show.specs.Lists.{Begins}
 use Rattle.urb_show.specs.declared.entry.Entry.{Entry}
-use mathlib.Core.List.{IsPrefix}
+use Rattle.urb_group.specs.declared.taken.Taken.TheVariants as taken
 
 -- ---- the list at a place
 

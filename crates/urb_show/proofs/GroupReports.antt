@@ -1,22 +1,16 @@
 -- What a group reports of a node's log and messages is the node's list.
-use Rattle.std.proofs.Common.{Bool, List, None, Option, Some, [], ap, ap₂, arith, cond, false}
-use Rattle.std.proofs.Common.{length, lt-ltb, map, nat_lt, slice_index_or, subst, suc, sym, true}
-use Rattle.std.proofs.Common.{zero, ℕ, ◌-◌, ◌<◌, ◌^◌, ◌∙◌, ◌∷◌, ◌≡◌, ◌≤◌}
+use Rattle.urb_show.proofs.Common.{Bool, Content, Delivery, GroupView, IsSound, Label, List, None}
+use Rattle.urb_show.proofs.Common.{Option, Some, World, [], ap, ap₂, arith, cond, delivered_at}
+use Rattle.urb_show.proofs.Common.{deliveries-known, entry_of, false, is_node, known, length}
+use Rattle.urb_show.proofs.Common.{length-map, list_at, lists_in, log, lt-ltb, map, message_of}
+use Rattle.urb_show.proofs.Common.{nat_lt, pend, slice_index_or, stored, subst, suc, sym, true}
+use Rattle.urb_show.proofs.Common.{zero, ℕ, ◌-◌, ◌<◌, ◌^◌, ◌∙◌, ◌∷◌, ◌≡◌, ◌≤◌}
 use Rattle.std.proofs.lemmas.Bool.{and_from}
-use Rattle.std.proofs.lemmas.List.{length-map}
-use Rattle.urb_group.proofs.shown.Deliveries.{deliveries-known, length-known}
+use Rattle.urb_group.proofs.shown.Deliveries.{length-known}
 use Rattle.urb_group.specs.GroupCalls.{FindsMessage, TellsLog}
-use Rattle.urb_group.specs.DeliveredMessages.{Agree as AgreeAll, Delivery, delivered_at, known}
-use Rattle.urb_group.specs.GroupViews.{GroupView, IsSound}
-use Rattle.urb_world.specs.World.{World, stored}
-use Rattle.urb_names.specs.LabelsAndContents.{Content, Label}
-use Rattle.urb_names.specs.Nodes.{is_node}
-use Rattle.urb_names.specs.Pairs.{message_of}
+use Rattle.urb_group.specs.DeliveredMessages.{Agree as AgreeAll}
 use Rattle.urb_show.proofs.GroupLists.{list_of}
-use Rattle.urb_show.specs.Lists.{entry_of, list_at, lists_in}
 use Rattle.urb_show.specs.declared.entry.Entry.{Entry}
-use Rattle.urb_stable.specs.DeliveredLogs.{log}
-use Rattle.urb_stable.specs.Records.{pend}
 
 -- the entry at a place, from the name there and its message
 entry_found : (f : Label → Option Content) (ds : List Delivery) (xs : List Label) (i : ℕ)

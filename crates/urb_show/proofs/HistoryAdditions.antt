@@ -1,12 +1,11 @@
 -- The exchange that adds an entry keeps the rule.
-use Rattle.std.proofs.Common.{◌≡◌, ℕ, ◌+◌, ◌<◌, ◌==◌, Bool, true, false, List, [], ◌∷◌, ◌++◌}
-use Rattle.std.proofs.Common.{length, refl, ap, sym, subst, arith, inl, length-append, None}
+use Rattle.urb_show.proofs.Common.{Bool, IsPrefix, List, None, [], ap, arith, false, inl, length}
+use Rattle.urb_show.proofs.Common.{length-append, nat_tests, refl, subst, sym, true, ℕ, ◌++◌, ◌+◌}
+use Rattle.urb_show.proofs.Common.{◌<◌, ◌==◌, ◌∷◌, ◌≡◌}
 use Rattle.std.proofs.lemmas.List.{append-nil}
-use Rattle.std.proofs.lemmas.Bool.Decides.{nat_tests}
-use mathlib.Core.List.{IsPrefix}
 use prog.Atomic.{either}
-use Rattle.logbook.specs.Pages.{Cell, cell, keeps, no_nib, step, Moves, Goes}
-use Rattle.urb_show.specs.internal.History.{IsKept, Adds}
+use Rattle.logbook.specs.Pages.{Cell, Goes, Moves, cell, keeps, no_nib, step}
+use Rattle.urb_show.specs.internal.History.{Adds, IsKept}
 use Rattle.urb_show.proofs.Prefixes.{prefix_whole}
 
 abbrev pub shown : {E : Type 0} → List E → List E

@@ -1,11 +1,6 @@
 -- The end of a house's past, as the last ones of its events.
-use Rattle.std.proofs.Common.{List, subst, ◌++◌, ◌∙◌}
-use Rattle.urb_group.specs.GroupViews.{GroupView, Shows}
-use Rattle.urb_world.specs.RecoveryPlans.{after}
-use Rattle.urb_world.specs.Step.{Event}
-use Rattle.urb_world.specs.World.{World}
-use Rattle.urb_show.specs.Pasts.{IsLedTo}
-use Rattle.urb_world.proofs.recovery.EventPlans.{after-append}
+use Rattle.urb_show.proofs.Common.{Event, GroupView, IsLedTo, List, Shows, World, after}
+use Rattle.urb_show.proofs.Common.{after-append, subst, ◌++◌, ◌∙◌}
 
 module _ (opened group : GroupView) (w : World) (shows : Shows opened w) (before : List Event) where
   -- a house whose last events are these two lists shows the world after both

@@ -13,6 +13,7 @@
 -- The main lemmas are `lists_grow` (GroupLists), `goes_on_agrees` (AgreeingLists) and
 -- `readers_never_contradict` (AgreeingPages). They rest on urb_group's lemmas about what nodes have
 -- delivered, and on the specifications of the crates left_right and logbook.
+mod Common
 pub mod Prefixes
 pub mod HistoryAdditions
 pub mod ListAdditions

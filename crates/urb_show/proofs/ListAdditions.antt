@@ -1,10 +1,9 @@
 -- One more entry in the list at a place.
-use Rattle.std.proofs.Common.{◌≡◌, ℕ, zero, suc, ◌<◌, ◌≤◌, false, List, [], ◌∷◌, ◌++◌, length, map}
-use Rattle.std.proofs.Common.{slice_index_or, slice_set, refl, ap, ◌∙◌, arith, Result, Ok, Err}
-use Rattle.std.proofs.Common.{MatchResult}
+use Rattle.urb_show.proofs.Common.{Err, List, MatchResult, Ok, Result, [], add_at, ap, arith, false}
+use Rattle.urb_show.proofs.Common.{length, map, refl, slice_index_or, slice_set, suc, zero, ℕ, ◌++◌}
+use Rattle.urb_show.proofs.Common.{◌<◌, ◌∙◌, ◌∷◌, ◌≡◌, ◌≤◌}
 use Rattle.std.specs.Result.{is_err}
 use Rattle.urb_show.specs.declared.entry.Entry.{Entry}
-use Rattle.urb_show.specs.Lists.{add_at}
 
 -- if the list of one element gets one more entry, the entry is added at that element's place
 pub add_at-set : {A : Type 0} (f : A → List Entry) (vs : List A) (p : ℕ) (v w : A) (e : Entry)

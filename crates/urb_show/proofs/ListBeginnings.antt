@@ -1,16 +1,11 @@
 -- Lists that are prefixes of others, node by node.
-use Rattle.std.proofs.Common.{◌≡◌, ◌⊎◌, inl, inr, ℕ, zero, suc, List, [], ◌∷◌, ◌++◌, refl, subst}
-use Rattle.std.proofs.Common.{sym, ap, ◌∙◌}
-use Rattle.std.proofs.lemmas.List.Sums.{fold-append}
-use mathlib.Core.List.{IsPrefix}
+use Rattle.urb_show.proofs.Common.{Addition, Agree, AreDeliveredBy, Event, GroupView, IsPrefix}
+use Rattle.urb_show.proofs.Common.{Learns, List, Lists, OneBeginsAll, ReaderView, [], add_at, ap}
+use Rattle.urb_show.proofs.Common.{fold-append, inl, inr, lists_of, refl, subst, suc, sym, zero, ℕ}
+use Rattle.urb_show.proofs.Common.{◌++◌, ◌∙◌, ◌∷◌, ◌≡◌, ◌⊎◌}
 use Rattle.urb_show.specs.declared.entry.Entry.{Entry}
-use Rattle.urb_show.specs.declared.entry.Addition.{Addition}
-use Rattle.urb_show.specs.Lists.{Agree, Begins, Lists, OneBeginsAll, add_at}
-use Rattle.urb_group.specs.GroupViews.{GroupView}
-use Rattle.urb_world.specs.Step.{Event}
-use Rattle.urb_show.specs.DeliveredLists.{AreDeliveredBy}
-use Rattle.urb_show.specs.Readers.{Learns, ReaderView, Takes}
-use Rattle.urb_show.specs.Additions.{lists_of}
+use Rattle.urb_show.specs.Lists.{Begins}
+use Rattle.urb_show.specs.Readers.{Takes}
 use Rattle.urb_show.proofs.Prefixes.{prefix_self, prefix_trans}
 
 -- lists are prefixes of themselves, node by node

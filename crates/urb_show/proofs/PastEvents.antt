@@ -1,19 +1,15 @@
 -- The past of a house after one more call.
-use Rattle.std.proofs.Common.{Bool, Err, List, Ok, Result, [], ap, arith, eqb-true, false}
-use Rattle.std.proofs.Common.{if◌then◌else◌, is_ok, length, length-append, refl, subst, sym, true}
-use Rattle.std.proofs.Common.{ℕ, ◌+◌, ◌++◌, ◌-◌, ◌<◌, ◌==◌, ◌^◌, ◌∙◌, ◌∷◌, ◌≡◌}
-use Rattle.urb_group.specs.GroupViews.{GroupView, IsSound, Shows}
-use Rattle.urb_world.specs.Step.{Event, IsReached, run, step}
-use Rattle.urb_world.specs.World.{World}
-use Rattle.urb_node.specs.Replies.{Reply}
+use Rattle.urb_show.proofs.Common.{Bool, Err, Event, GroupView, IsLedTo, IsPrefix, IsSound, List}
+use Rattle.urb_show.proofs.Common.{Ok, Reply, Result, Shows, World, [], after, after-append, ap}
+use Rattle.urb_show.proofs.Common.{arith, eqb-true, false, if◌then◌else◌, is_ok, length}
+use Rattle.urb_show.proofs.Common.{length-append, refl, run, subst, sym, true, ℕ, ◌++◌, ◌+◌, ◌-◌}
+use Rattle.urb_show.proofs.Common.{◌<◌, ◌==◌, ◌^◌, ◌∙◌, ◌∷◌, ◌≡◌}
+use Rattle.urb_world.specs.Step.{IsReached, step}
 use Rattle.urb_show.proofs.GroupLists.{MayFollow}
 use Rattle.urb_show.proofs.PastPrefixes.{prefix_more}
 use Rattle.urb_show.specs.Houses.{next_count}
-use Rattle.urb_world.specs.RecoveryPlans.{after}
-use Rattle.urb_show.specs.Pasts.{IsLedTo}
 use Rattle.urb_show.specs.internal.PreparedLists.{HasPast}
-use mathlib.Core.List.{IsPrefix}
-use Rattle.urb_world.proofs.recovery.EventPlans.{after-append, after-none}
+use Rattle.urb_world.proofs.recovery.EventPlans.{after-none}
 
 -- the world after one more event is the next step
 pub after_one_more : (w : World) (events : List Event) (event : Event)

@@ -1,11 +1,9 @@
 -- Prefixes of a past.
-use Rattle.std.proofs.Common.{IsTrue, List, [], ap, append_assoc, arith, false, length, refl, sym}
-use Rattle.std.proofs.Common.{true, ◌++◌, ◌<◌, ◌∙◌, ◌∷◌, ◌≡◌, ◌↔◌}
+use Rattle.urb_show.proofs.Common.{Event, IsPrefix, IsTrue, List, [], ap, append_assoc, arith}
+use Rattle.urb_show.proofs.Common.{false, length, refl, sym, true, ◌++◌, ◌<◌, ◌↔◌, ◌∙◌, ◌∷◌, ◌≡◌}
 use Rattle.std.proofs.lemmas.List.{append-nil}
-use Rattle.urb_world.specs.Step.{Event}
 use Rattle.urb_show.proofs.Prefixes.{prefix_length}
 use Rattle.urb_show.specs.internal.Pasts.{event_at}
-use mathlib.Core.List.{IsPrefix}
 
 -- a shorter prefix of a past, and the event behind it
 pub next_begins : (told past : List Event) → IsPrefix told past → length told < length past

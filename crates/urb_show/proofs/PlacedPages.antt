@@ -1,30 +1,18 @@
 -- Lists that are delivered at places of one history agree.
-use Rattle.std.proofs.Common.{Bool, List, Option, [], ap, filter, inl, inr, map, refl}
-use Rattle.std.proofs.Common.{subst, suc, sym, ℕ, ⊎_elim, ◌==◌, ◌∙◌, ◌∷◌, ◌≡◌}
-use Rattle.std.proofs.lemmas.List.Elements.{filter-append}
+use Rattle.urb_show.proofs.Common.{AgreeAcross, AreDeliveredBy, Bool, Content, Delivery, Event}
+use Rattle.urb_show.proofs.Common.{GroupView, HaveDelivered, IsPrefix, IsSound, Label, List, Lists}
+use Rattle.urb_show.proofs.Common.{OneBegins, Option, World, [], after, ap, delivery_of, entries}
+use Rattle.urb_show.proofs.Common.{filter, filter-append, in_log, inl, inr, known, list_at, log}
+use Rattle.urb_show.proofs.Common.{map, message_of, pend, refl, run-kept, safe, sent_by, sound-kept}
+use Rattle.urb_show.proofs.Common.{stored, subst, suc, sym, ℕ, ⊎_elim, ◌==◌, ◌∙◌, ◌∷◌, ◌≡◌}
 use Rattle.urb_world.proofs.safety.AgreeingLogs.{agree-now}
-use Rattle.urb_world.proofs.safety.SafeWorlds.{safe}
-use Rattle.urb_group.proofs.shown.AgreeingWorlds.{sound-kept}
 use Rattle.urb_group.proofs.shown.Deliveries.{known-begins}
-use Rattle.urb_world.proofs.steps.Runs.{run-kept}
-use Rattle.urb_group.specs.DeliveredMessages.{Delivery, known, sent_by}
-use Rattle.urb_group.specs.GroupViews.{GroupView, IsSound}
-use Rattle.urb_world.specs.RecoveryPlans.{after}
 use Rattle.urb_world.specs.SafetyProperties.{Safe}
-use Rattle.urb_world.specs.Step.{Event}
-use Rattle.urb_world.specs.World.{World, stored}
-use Rattle.urb_names.specs.LabelsAndContents.{Content, Label}
-use Rattle.urb_names.specs.ListPrefixes.{OneBegins}
-use Rattle.urb_names.specs.Pairs.{message_of}
-use Rattle.urb_stable.specs.DeliveredLogs.{entries, entries_of, log}
-use Rattle.urb_stable.specs.Records.{pend}
+use Rattle.urb_stable.specs.DeliveredLogs.{entries_of}
 use Rattle.urb_show.proofs.AgreeingLists.{either_prefix}
 use Rattle.urb_show.proofs.DeliveredPlaces.{delivered_later}
 use Rattle.urb_show.proofs.Prefixes.{prefix_trans}
-use Rattle.urb_show.specs.DeliveredLists.{AreDeliveredBy, HaveDelivered, in_log}
-use Rattle.urb_show.specs.Lists.{AgreeAcross, Lists, delivery_of, list_at}
 use Rattle.urb_show.specs.declared.entry.Entry.{Entry}
-use mathlib.Core.List.{IsPrefix}
 use Rattle.urb_group.proofs.shown.AgreeingDeliveries.{filter-mapped}
 
 filter_prefix : {A : Type 0} (test : A → Bool) (xs ys : List A) → IsPrefix xs ys

@@ -1,17 +1,13 @@
 -- One more entry is prepared.
-use Rattle.std.proofs.Common.{◌≡◌, ◌≢◌, ℕ, zero, suc, ◌+◌, ◌<◌, List, [], ◌∷◌, ◌++◌, length, map}
-use Rattle.std.proofs.Common.{slice_index_or, slice_set, refl, ap, sym, subst, ◌∙◌, arith}
-use Rattle.std.proofs.Common.{length-append}
-use Rattle.std.proofs.lemmas.List.{get_or-map, length-map}
-use Rattle.std.proofs.lemmas.List.Sums.{fold-append}
+use Rattle.urb_show.proofs.Common.{Addition, GroupView, IsHouse, IsSound, List, Lists, [], add_at}
+use Rattle.urb_show.proofs.Common.{ap, arith, deliveries, entry_of, fold-append, length}
+use Rattle.urb_show.proofs.Common.{length-append, length-map, list_at, lists_in, lists_of, map}
+use Rattle.urb_show.proofs.Common.{refl, slice_index_or, slice_set, subst, suc, sym, zero, ℕ, ◌++◌}
+use Rattle.urb_show.proofs.Common.{◌+◌, ◌<◌, ◌∙◌, ◌∷◌, ◌≡◌, ◌≢◌}
+use Rattle.std.proofs.lemmas.List.{get_or-map}
 use Rattle.urb_show.specs.declared.entry.Entry.{Entry}
-use Rattle.urb_show.specs.declared.entry.Addition.{Addition}
-use Rattle.urb_group.specs.GroupViews.{GroupView, IsSound}
-use Rattle.urb_show.specs.Lists.{Begins, Lists, add_at, entry_of, list_at, lists_in}
-use Rattle.urb_group.specs.DeliveredMessages.{deliveries}
+use Rattle.urb_show.specs.Lists.{Begins}
 use Rattle.urb_show.proofs.ListBeginnings.{begins_self}
-use Rattle.urb_show.specs.Additions.{lists_of}
-use Rattle.urb_show.specs.internal.PreparedLists.{IsHouse}
 use Rattle.urb_show.proofs.AgreeingLists.{at_added, at_other, begins_next, length_added}
 
 -- one more addition adds its entry to the lists at its place

@@ -1,24 +1,19 @@
 -- A step that does not shorten the history keeps the rule.
-use Rattle.std.proofs.Common.{◌≡◌, ℕ, zero, suc, ◌≤◌, ◌≢◌, List, [], ◌∷◌, length, refl, subst}
-use Rattle.std.proofs.Common.{⊎_elim, le_refl, le_trans, zero-le}
+use Rattle.urb_show.proofs.Common.{Addition, Agree, AreTimely, IsIssue, IsPrefix, IsSound, IsTimely}
+use Rattle.urb_show.proofs.Common.{Issue, List, NameView, None, Option, Some, [], ap, applied_to}
+use Rattle.urb_show.proofs.Common.{fold, issue_of, le_refl, le_trans, length, lists_of, refl, subst}
+use Rattle.urb_show.proofs.Common.{suc, sym, zero, zero-le, ℕ, ⊎_elim, ◌++◌, ◌∙◌, ◌∷◌, ◌≡◌, ◌≢◌}
+use Rattle.urb_show.proofs.Common.{◌≤◌}
 use mathlib.Core.Option.{some}
 use lib.ListN.{get_elem?}
 use Rattle.left_right.specs.Register.{Admits, TurnsAt}
 use Rattle.atomic_table.proofs.Lists.{at_set, at_snoc}
-use mathlib.Core.List.{IsPrefix}
-use Rattle.std.proofs.Common.{ap, sym, ◌∙◌, fold, ◌++◌, Option, Some, None}
 use Rattle.std.specs.Option.{MatchOption}
-use Rattle.urb_group.specs.GroupViews.{IsSound}
-use Rattle.urb_show.specs.declared.entry.Addition.{Addition}
 use Rattle.urb_show.specs.declared.published_lists.ListsState.{ListsState}
 use Rattle.urb_show.specs.declared.published_lists.Operation.{Operation}
-use Rattle.urb_show.specs.internal.Operations.{state_of, applied_to}
-use Rattle.urb_show.specs.Lists.{Agree}
-use Rattle.urb_show.specs.Additions.{lists_of}
-use Rattle.urb_show.specs.internal.History.{Issue, issue_of}
+use Rattle.urb_show.specs.internal.Operations.{state_of}
 use Rattle.urb_show.proofs.Prefixes.{prefix_length, prefix_self, prefix_trans}
-use Rattle.urb_show.specs.internal.PublishingRule.{AreTimely, IsIssue, IsTimely, Keeps, NameView}
-use Rattle.urb_show.specs.internal.PublishingRule.{Rises}
+use Rattle.urb_show.specs.internal.PublishingRule.{Keeps, Rises}
 
 -- a new reader that has seen nothing leaves the rule kept
 pub admits : (names : NameView) → Admits (Keeps names) 0

@@ -1,29 +1,20 @@
 -- Names that extend a log in order join it, and the messages of a log are those of the lists. So
 -- what the worlds of a run deliver is what users see.
-use Rattle.std.proofs.Common.{List, Option, Some, [], ap, ap₂, append_assoc, arith, eq-eqb, length}
-use Rattle.std.proofs.Common.{length-append, length-take, map, refl, slice_get, subst, suc, sym, take}
-use Rattle.std.proofs.Common.{true, zero, ℕ, ◌++◌, ◌+◌, ◌-◌, ◌==◌, ◌∙◌, ◌∷◌, ◌≡◌, ◌≤◌}
-use Rattle.std.proofs.lemmas.Bool.{cond-true, or_left, or_right}
-use Rattle.std.proofs.lemmas.List.{length-map}
-use Rattle.std.proofs.lemmas.List.Elements.{filter-append}
-use Rattle.urb_world.proofs.safety.SafeWorlds.{safe}
-use Rattle.urb_world.proofs.steps.DraftedRecords.{to_sender}
-use Rattle.urb_world.proofs.steps.Runs.{all_kept}
-use Rattle.urb_world.specs.RunInvariant.{NodesKept}
-use Rattle.urb_world.specs.World.{World, stored}
-use Rattle.urb_names.proofs.FoundPairs.{has_pair-found}
+use Rattle.urb_show.proofs.Common.{Content, Join, Label, List, NodesKept, Option, Service, Some}
+use Rattle.urb_show.proofs.Common.{World, [], all_kept, ap, append_assoc, ap₂, arith, cond-true}
+use Rattle.urb_show.proofs.Common.{entries, eq-eqb, filter-append, has_name, has_pair}
+use Rattle.urb_show.proofs.Common.{has_pair-found, length, length-append, length-map, length-take}
+use Rattle.urb_show.proofs.Common.{log, map, message_of, name, numbers_from, pend, refl, safe}
+use Rattle.urb_show.proofs.Common.{slice_get, stored, subst, suc, sym, take, to_sender, true, zero}
+use Rattle.urb_show.proofs.Common.{ℕ, ◌++◌, ◌+◌, ◌-◌, ◌==◌, ◌∙◌, ◌∷◌, ◌≡◌, ◌≤◌}
+use Rattle.std.proofs.lemmas.Bool.{or_left, or_right}
 use Rattle.urb_names.proofs.SameNames.{same_name-same}
-use Rattle.urb_names.specs.LabelsAndContents.{Content, Label}
-use Rattle.urb_names.specs.Names.{has_name, name, names, same_name}
-use Rattle.urb_names.specs.Nodes.{numbers_from}
-use Rattle.urb_names.specs.Pairs.{has_pair, message_of}
+use Rattle.urb_names.specs.Names.{names, same_name}
 use Rattle.urb_names.specs.Release.{part_of}
-use Rattle.urb_show.specs.Service.{Join, Service, entries_at}
+use Rattle.urb_show.specs.Service.{entries_at}
 use Rattle.urb_show.specs.ShownServices.{shown}
 use Rattle.urb_stable.proofs.KeptRules.{kept-numbered, kept-unique}
 use Rattle.urb_stable.proofs.OwnRules.{own_number}
-use Rattle.urb_stable.specs.DeliveredLogs.{entries, log}
-use Rattle.urb_stable.specs.Records.{pend}
 
 -- ---- any log
 

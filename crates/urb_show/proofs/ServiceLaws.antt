@@ -1,48 +1,41 @@
 -- What the algorithm's worlds show is a service: each event is one of its steps, and a stop and a
 -- start are its start.
-use Rattle.std.proofs.Common.{Bool, Err, List, Ok, Option, Result, [], ap, ap₂}
+use Rattle.urb_show.proofs.Common.{Arrive, Bool, Carried, Commit, Content, Crash, Does, Down, Err}
+use Rattle.urb_show.proofs.Common.{Event, Fail, Join, Limits, List, NodesKept, Ok, Option, Ready}
+use Rattle.urb_show.proofs.Common.{Refusal, Refused, Reply, Restart, Result, Resumes, Service}
+use Rattle.urb_show.proofs.Common.{ShowsStep, Starts, Storing, Submit, Tick, World, [], all_kept}
+use Rattle.urb_show.proofs.Common.{ap, ap₂, cond-true, doubt, eqb-true, false, false≢true, has_pair}
+use Rattle.urb_show.proofs.Common.{inl, inr, is_node, is_none, listed, log, message_of, ne_eqb, own}
+use Rattle.urb_show.proofs.Common.{pend, pend-append, refl, shown_node, step-size, stored}
+use Rattle.urb_show.proofs.Common.{submit_answer, submits, subst, sym, to_sender, true, write_of, ℕ}
+use Rattle.urb_show.proofs.Common.{◌++◌, ◌==◌, ◌∙◌, ◌∷◌, ◌≡◌}
 use Rattle.std.proofs.Common.{append-nil}
-use Rattle.std.proofs.Common.{eqb-true, false, inl, inr, is_none, ne_eqb, refl, subst}
-use Rattle.std.proofs.Common.{sym, true, ℕ, ◌++◌, ◌==◌, ◌∙◌, ◌∷◌, ◌≡◌}
-use Rattle.std.proofs.lemmas.Bool.{cond-true, false≢true}
 use Rattle.urb_world.proofs.steps.ConfirmedPackets.{borne-pair}
-use Rattle.urb_world.proofs.steps.DraftedRecords.{AllKept, to_sender}
-use Rattle.urb_world.proofs.steps.DraftsInSteps.{step-elsewhere, step-size}
+use Rattle.urb_world.proofs.steps.DraftedRecords.{AllKept}
+use Rattle.urb_world.proofs.steps.DraftsInSteps.{step-elsewhere}
 use Rattle.urb_world.proofs.steps.Growth.{step-goes_on}
 use Rattle.urb_world.proofs.steps.OneNodeStep.{updated-at}
-use Rattle.urb_world.proofs.steps.Runs.{all_kept, opened-keeps, step-keeps}
-use Rattle.urb_world.proofs.steps.StepCases.{IsNoArrival, outcome_of, packet-cases, step-here}
-use Rattle.urb_world.proofs.steps.StepCases.{step-cases, step-outcome}
+use Rattle.urb_world.proofs.steps.Runs.{opened-keeps, step-keeps}
+use Rattle.urb_world.proofs.steps.StepCases.{IsNoArrival, outcome_of, packet-cases, step-cases}
+use Rattle.urb_world.proofs.steps.StepCases.{step-here, step-outcome}
 use Rattle.urb_world.proofs.stops.StoppedWorlds.{left-kept, survives}
 use Rattle.urb_world.specs.EventEffects.{event_node}
 use Rattle.urb_world.specs.ProcessStops.{MayLeave}
-use Rattle.urb_world.specs.RunInvariant.{IsKept, NodesKept, StateKept}
-use Rattle.urb_world.specs.Step.{Arrive, Commit, Crash, Event, Fail, Restart, Submit, Tick}
+use Rattle.urb_world.specs.RunInvariant.{IsKept, StateKept}
 use Rattle.urb_world.specs.Step.{step, world_after}
-use Rattle.urb_world.specs.World.{World, opened, stored, truthful}
+use Rattle.urb_world.specs.World.{opened, truthful}
 use Rattle.urb_names.proofs.FoundPairs.{no_pair, none_found, own-append}
-use Rattle.urb_names.specs.CarriedPackets.{Carried}
-use Rattle.urb_names.specs.LabelsAndContents.{Content, Limits}
 use Rattle.urb_names.specs.ListPrefixes.{Begins}
-use Rattle.urb_names.specs.Nodes.{is_node}
-use Rattle.urb_names.specs.Pairs.{has_pair, message_of, own}
 use Rattle.urb_names.specs.declared.refusal.PacketFault.{PacketFault}
-use Rattle.urb_names.specs.declared.refusal.Refusal.{Refusal}
-use Rattle.urb_node.specs.Part.{Down, Node as Part, Ready, State as PartState, Storing}
-use Rattle.urb_node.specs.Replies.{Refused, Reply}
-use Rattle.urb_node.specs.Steps.{doubt, submits}
+use Rattle.urb_node.specs.Part.{Node as Part, State as PartState}
 use Rattle.urb_show.proofs.ServiceJoins.{logs-join}
 use Rattle.urb_show.proofs.ServiceNodes.{Grown, InTurn, arrive-seen, commit-seen, crash-seen}
-use Rattle.urb_show.proofs.ServiceNodes.{fail-seen, ready_with, restart-seen, submit-seen, tick-seen}
-use Rattle.urb_show.specs.Service.{Does, Join, Resumes, Service, Starts}
-use Rattle.urb_show.specs.Service as seen
-use Rattle.urb_show.specs.ShownServices.{ShowsRun, ShowsStep, act_of, listed, shown, shown_node}
-use Rattle.urb_show.specs.ShownServices.{submit_answer, write_of}
+use Rattle.urb_show.proofs.ServiceNodes.{fail-seen, ready_with, restart-seen, submit-seen}
+use Rattle.urb_show.proofs.ServiceNodes.{tick-seen}
+use Rattle.urb_show.specs.ShownServices.{ShowsRun, act_of, shown}
 use Rattle.urb_stable.proofs.Contents.{IsEither, contents-either}
-use Rattle.urb_stable.proofs.JoinedRecords.{pend-append}
-use Rattle.urb_stable.specs.DeliveredLogs.{log}
 use Rattle.urb_stable.specs.Entries.{Entry}
-use Rattle.urb_stable.specs.Records.{pend}
+use Rattle.urb_show.specs.Service as seen
 
 -- ---- one event
 

@@ -1,36 +1,34 @@
 -- What a user sees of one node's part of each event.
-use Rattle.std.proofs.Common.{Bool, List, None, Option, Some, [], ap, ap₂, append-nil, bytes_eq}
-use Rattle.std.proofs.Common.{cond, eq-eqb, eqb-true, false, find, inl, inr, is_none, length, map}
-use Rattle.std.proofs.Common.{nat_lt, not, refl, subst, suc, sym, true, ℕ, ◌&&◌, ◌++◌, ◌==◌, ◌∙◌}
-use Rattle.std.proofs.Common.{◌||◌, ◌∷◌, ◌≡◌}
-use Rattle.std.proofs.lemmas.Bool.{and_parts, cond-true, cond_both}
+use Rattle.urb_show.proofs.Common.{Answer, Bool, Content, Does, Down, Join, Label, Limits, List}
+use Rattle.urb_show.proofs.Common.{None, Option, Ready, Reply, Service, Some, Storing, [], ap, ap₂}
+use Rattle.urb_show.proofs.Common.{bytes_eq, cond, cond-true, doubt, eq-eqb, eqb-true, false, find}
+use Rattle.urb_show.proofs.Common.{has_name, inl, inr, is_none, length, listed, log, map}
+use Rattle.urb_show.proofs.Common.{message_of, name, nat_lt, not, own, pend, refl, shown_node}
+use Rattle.urb_show.proofs.Common.{submit_answer, submits, subst, suc, sym, true, write_of, ℕ, ◌&&◌}
+use Rattle.urb_show.proofs.Common.{◌++◌, ◌==◌, ◌||◌, ◌∙◌, ◌∷◌, ◌≡◌}
+use Rattle.std.proofs.Common.{append-nil}
+use Rattle.std.proofs.lemmas.Bool.{and_parts, cond_both}
 use Rattle.urb_world.proofs.steps.ArrivalCases.{any-heard, told_node}
 use Rattle.urb_group.specs.ReportedStates.{state_of}
-use Rattle.urb_group.specs.declared.state.State.TheVariants as state
 use Rattle.urb_names.specs.Acknowledgements.{acked, with_ack}
 use Rattle.urb_names.specs.CarriedPackets.{says_certified}
-use Rattle.urb_names.specs.LabelsAndContents.{Content, Label, Limits}
-use Rattle.urb_names.specs.Names.{has_name, name}
 use Rattle.urb_names.specs.Nodes.{majority_passes}
-use Rattle.urb_names.specs.Pairs.{is_numbered, message_of, next_number, own}
+use Rattle.urb_names.specs.Pairs.{is_numbered, next_number}
 use Rattle.urb_names.specs.declared.flags.Flags.{Flags}
 use Rattle.urb_names.specs.declared.limits.TheConstants.{MAX_PAYLOAD}
-use Rattle.urb_node.specs.Part.{Down, Node as Part, Ready, State as PartState, Storing, packet_from}
-use Rattle.urb_node.specs.Replies.{Reply}
+use Rattle.urb_node.specs.Part.{Node as Part, State as PartState, packet_from}
 use Rattle.urb_node.specs.Steps.{answers, arrives, broadcast_after, commits, counts, crashes}
-use Rattle.urb_node.specs.Steps.{doubt, drafts, fails, is_accepted, next_position, restarts}
-use Rattle.urb_node.specs.Steps.{same_record, says, submits, submits_by_number, ticks}
+use Rattle.urb_node.specs.Steps.{drafts, fails, is_accepted, next_position, restarts, same_record}
+use Rattle.urb_node.specs.Steps.{says, submits_by_number, ticks}
 use Rattle.urb_node.specs.declared.cause.Cause.{Cause}
-use Rattle.urb_show.specs.Answers.{Answer, answer_by, answer_to}
-use Rattle.urb_show.specs.Service.{Does, Join, Service}
-use Rattle.urb_show.specs.Service as seen
-use Rattle.urb_show.specs.ShownServices.{fail_of, finish_of, listed, refusal_in, shown_node}
-use Rattle.urb_show.specs.ShownServices.{submit_answer, write_of}
-use Rattle.urb_stable.specs.DeliveredLogs.{log}
+use Rattle.urb_show.specs.Answers.{answer_by, answer_to}
+use Rattle.urb_show.specs.ShownServices.{fail_of, finish_of, refusal_in}
 use Rattle.urb_stable.specs.Entries.{Entry, name_of}
 use Rattle.urb_stable.specs.Fitting.{is_in_turn, is_next_own}
-use Rattle.urb_stable.specs.Records.{cert, pend}
+use Rattle.urb_stable.specs.Records.{cert}
 use Rattle.urb_stable.specs.declared.record.Record.TheVariants.{Cert, Pend, PendCert}
+use Rattle.urb_group.specs.declared.state.State.TheVariants as state
+use Rattle.urb_show.specs.Service as seen
 
 -- a node with these fields
 abbrev part : List Entry → PartState → List (Label × ℕ) → List (Label × ℕ) → Option Label

@@ -1,10 +1,9 @@
 -- Publishing what was prepared settles the node.
-use Rattle.std.proofs.Common.{◌≡◌, ℕ, ◌≤◌, sym, ap, subst, ◌∙◌, length, Result, Ok, Err}
-use Rattle.std.proofs.Common.{List, MatchResult}
-use Rattle.urb_world.specs.Step.{Event}
-use Rattle.urb_show.specs.Lists.{Begins, Lists, list_at, lists_in}
-use Rattle.urb_show.specs.Houses.{HouseView, Grew, Settled}
-use Rattle.urb_show.specs.Readers.{ToldView}
+use Rattle.urb_show.proofs.Common.{Err, Event, Grew, HouseView, List, Lists, MatchResult, Ok}
+use Rattle.urb_show.proofs.Common.{Result, ToldView, ap, length, list_at, lists_in, subst, sym, ℕ}
+use Rattle.urb_show.proofs.Common.{◌∙◌, ◌≡◌, ◌≤◌}
+use Rattle.urb_show.specs.Lists.{Begins}
+use Rattle.urb_show.specs.Houses.{Settled}
 use Rattle.urb_show.proofs.Prefixes.{prefix_whole}
 use Rattle.urb_show.proofs.AgreeingLists.{begins_at}
 

@@ -1,16 +1,9 @@
 -- What a reader takes of a published value.
-use Rattle.std.proofs.Common.{List, ap, subst, ◌∙◌, ◌≡◌}
-use Rattle.urb_world.specs.Step.{Event}
+use Rattle.urb_show.proofs.Common.{Addition, Agree, AreDeliveredBy, Event, IsIssue, IsPrefix, Issue}
+use Rattle.urb_show.proofs.Common.{List, Lists, NameView, ReaderView, ap, lists_of, subst, ◌∙◌, ◌≡◌}
 use Rattle.urb_show.proofs.DeliveredPlaces.{delivered_later}
 use Rattle.urb_show.proofs.ListBeginnings.{takes}
-use Rattle.urb_show.specs.Additions.{lists_of}
-use Rattle.urb_show.specs.DeliveredLists.{AreDeliveredBy}
-use Rattle.urb_show.specs.Lists.{Agree, Lists}
-use Rattle.urb_show.specs.Readers.{ReaderView, Takes}
-use Rattle.urb_show.specs.declared.entry.Addition.{Addition}
-use Rattle.urb_show.specs.internal.History.{Issue}
-use Rattle.urb_show.specs.internal.PublishingRule.{IsIssue, NameView}
-use mathlib.Core.List.{IsPrefix}
+use Rattle.urb_show.specs.Readers.{Takes}
 
 module _ (names : NameView) (x : Issue) (token : List Addition) (moment : List Event)
     (good : IsIssue names x) (log : x.mark.log ≡ token)

@@ -1,15 +1,9 @@
 -- Each addition to a house's lists has its events. After these, the nodes had delivered the lists.
-use Rattle.std.proofs.Common.{List, [], ap, refl, subst, sym, ◌++◌, ◌∙◌, ◌∷◌, ◌≡◌, ◌⊎◌}
-use Rattle.std.proofs.Common.{inl, inr, ⊎_elim}
-use Rattle.std.proofs.lemmas.List.Sums.{fold-append}
+use Rattle.urb_show.proofs.Common.{Addition, AreDeliveredBy, AreTimely, IsPrefix, IsTimely, List}
+use Rattle.urb_show.proofs.Common.{MarkView, NameView, [], ap, fold-append, inl, inr, lists_of}
+use Rattle.urb_show.proofs.Common.{refl, subst, sym, ⊎_elim, ◌++◌, ◌∙◌, ◌∷◌, ◌≡◌, ◌⊎◌}
 use Rattle.logbook.specs.Pages.{Book}
-use Rattle.urb_show.specs.Additions.{lists_of}
-use Rattle.urb_show.specs.DeliveredLists.{AreDeliveredBy}
-use Rattle.urb_show.specs.declared.entry.Addition.{Addition}
 use Rattle.urb_show.specs.internal.History.{events_of}
-use Rattle.urb_show.specs.internal.Marks.{MarkView}
-use Rattle.urb_show.specs.internal.PublishingRule.{AreTimely, IsTimely, NameView}
-use mathlib.Core.List.{IsPrefix}
 
 -- the events of additions are those of the last one
 pub last_events : (history : Book) (log : List Addition) (a : Addition)

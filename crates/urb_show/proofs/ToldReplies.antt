@@ -1,21 +1,15 @@
 -- The place of an event in a history, and its reply there.
-use Rattle.std.proofs.Common.{Err, IfOk, List, Ok, Result, Some, [], if◌then◌else◌, is_ok}
-use Rattle.std.proofs.Common.{length}
-use Rattle.std.proofs.Common.{refl, slice_get, subst, suc, sym, take, zero, ℕ, ◌++◌, ◌∙◌, ◌∷◌, ◌≡◌}
+use Rattle.urb_show.proofs.Common.{Carried, ComesUp, Commit, Commits, Done, Err, Event, GoesDown}
+use Rattle.urb_show.proofs.Common.{GroupView, IfOk, IsLedTo, IsPrefix, List, Ok, Placed, Refusal}
+use Rattle.urb_show.proofs.Common.{Reply, Result, Sent, Some, Stored, Taken, Ticks, Up, WentDown}
+use Rattle.urb_show.proofs.Common.{[], after, if◌then◌else◌, is_ok, length, refl, reply_to}
+use Rattle.urb_show.proofs.Common.{slice_get, subst, suc, sym, take, zero, ℕ, ◌++◌, ◌∙◌, ◌∷◌, ◌≡◌}
 use Rattle.std.proofs.lemmas.List.{append-nil}
-use Rattle.urb_group.specs.GroupCalls.{ComesUp, Commits, GoesDown, Steps, Takes, Ticks}
-use Rattle.urb_group.specs.GroupViews.{GroupView}
-use Rattle.urb_world.specs.Step.{Commit, Event, step}
-use Rattle.urb_group.specs.declared.taken.Taken.TheVariants as taken
-use Rattle.urb_group.specs.declared.taken.Taken.{Taken}
-use Rattle.urb_names.specs.CarriedPackets.{Carried}
-use Rattle.urb_names.specs.declared.refusal.Refusal.{Refusal}
-use Rattle.urb_node.specs.Replies.{Done, Reply, Sent, Stored, Up, WentDown}
-use Rattle.urb_stable.specs.PlacedRecords.{Placed}
+use Rattle.urb_group.specs.GroupCalls.{Steps, Takes}
+use Rattle.urb_world.specs.Step.{step}
 use Rattle.urb_show.proofs.Prefixes.{prefix_get}
-use Rattle.urb_world.specs.RecoveryPlans.{after}
-use Rattle.urb_show.specs.Pasts.{IsLedTo, IsToldAt, reply_to}
-use mathlib.Core.List.{IsPrefix}
+use Rattle.urb_show.specs.Pasts.{IsToldAt}
+use Rattle.urb_group.specs.declared.taken.Taken.TheVariants as taken
 
 last_get : (past : List Event) (event : Event)
     → slice_get (past ++ event ∷ []) (length past) ≡ Some event

@@ -1,24 +1,19 @@
 -- Opening both tables, one after the other.
-use Rattle.std.proofs.Common.{◌≡◌, ◌⊎◌, inl, inr, ℕ, ◌+◌, List, [], ◌++◌, length}
-use Rattle.std.proofs.Common.{length-append, option_map, Option, Some, None, true, false, Ok, Err}
-use Rattle.std.proofs.Common.{refl, sym, ap, subst, ◌∙◌, arith}
-use Rattle.std.specs.Prelude.{unwrap_or, Result, IfOk, OnOk}
-use Rattle.sqlite.specs.Effect.{Database}
+use Rattle.urb_sqlite.proofs.Common.{AddsTable, CommitsBy, CommitsEither, Database, Err, First}
+use Rattle.urb_sqlite.proofs.Common.{HasBoth, HasCleanDisk, HasJournal, HasTable, IfOk, IsAdoptable}
+use Rattle.urb_sqlite.proofs.Common.{IsCounted, IsHonestJournal, IsInStep, IsMade, IsPartOpened}
+use Rattle.urb_sqlite.proofs.Common.{IsRead, IsTakenOver, Lacks, List, None, Ok, OnOk, Option}
+use Rattle.urb_sqlite.proofs.Common.{Result, Second, Some, StandsFor, Survives, [], ap, arith}
+use Rattle.urb_sqlite.proofs.Common.{create_text, false, has_table, inl, inr, is_journal}
+use Rattle.urb_sqlite.proofs.Common.{journal_name, length, length-append, limit_of, option_map}
+use Rattle.urb_sqlite.proofs.Common.{read_from, records_of, refl, second_name, second_text, subst}
+use Rattle.urb_sqlite.proofs.Common.{survives_then, sym, table_of, table_rows, true, unwrap_or, ℕ}
+use Rattle.urb_sqlite.proofs.Common.{◌++◌, ◌+◌, ◌∙◌, ◌≡◌, ◌⊎◌}
 use Rattle.sqlite.specs.Schema.{Schema}
-use Rattle.sqlite.proofs.StateLemmas.{survives_then}
-use Rattle.sqlite.specs.State.{State, HasCleanDisk, Survives, CommitsBy}
+use Rattle.sqlite.specs.State.{State}
 use Rattle.sqlite.specs.Table.{Table}
-use Rattle.urb_sqlite.specs.declared.sql.Part.TheVariants.{First, Second}
-use Rattle.urb_sqlite.specs.JournalTables.{create_text, journal_name, second_name, limit_of, table_of}
-use Rattle.urb_sqlite.specs.JournalTables.{Lacks, HasTable, HasBoth, HasJournal, IsAdoptable}
-use Rattle.urb_sqlite.specs.internal.JournalStatements.{second_text}
-use Rattle.urb_sqlite.specs.OpenJournal.{AddsTable, IsHonestJournal, IsTakenOver, CommitsEither}
-use Rattle.urb_sqlite.specs.internal.JournalChanges.{IsCounted, IsInStep, IsMade, MakesAtMost}
-use Rattle.urb_sqlite.specs.internal.PartOpening.{IsRead, IsPartOpened}
-use Rattle.urb_sqlite.specs.RowReadings.{read_from, records_of}
-use Rattle.urb_sqlite.specs.RecordRows.{table_rows, StandsFor}
-use Rattle.urb_sqlite.specs.TableShapes.{is_journal, has_table}
-use Rattle.urb_sqlite.proofs.AddedTables.{table_stays, has_before}
+use Rattle.urb_sqlite.specs.internal.JournalChanges.{MakesAtMost}
+use Rattle.urb_sqlite.proofs.AddedTables.{has_before, table_stays}
 use Rattle.urb_sqlite.proofs.CreateStatement.{commits_one}
 use Rattle.urb_sqlite.proofs.KeptRecords.{earlier_clean}
 use Rattle.urb_sqlite.proofs.StatementTexts.{create_parsed}

@@ -1,22 +1,20 @@
 -- A schema to which a table was added after the others. Each old name finds what it found before,
 -- and the new name finds the new table.
-use Rattle.std.proofs.Common.{◌≡◌, ℕ, zero, suc, ◌+◌, ◌<◌, ◌≤◌, ◌==◌, ◌^◌, Bool, true, false, cond}
-use Rattle.std.proofs.Common.{nat_le, max, List, [], ◌∷◌, ◌++◌, length, fold, find, slice_get}
-use Rattle.std.proofs.Common.{option_and_then, option_map, Option, None, Some, refl, sym}
-use Rattle.std.proofs.Common.{ap, subst, ◌∙◌, arith}
-use Rattle.std.specs.List.{AllByRecursion, AllZip, position_from}
-use Rattle.std.proofs.lemmas.Bool.{eqb-true, eq-eqb}
-use Rattle.sqlite.specs.Order.{Row}
+use Rattle.urb_sqlite.proofs.Common.{AllByRecursion, AllZip, Bool, HasTable, IsSound, IsTableRow}
+use Rattle.urb_sqlite.proofs.Common.{Lacks, List, None, Option, Row, Some, [], ap, arith, cond}
+use Rattle.urb_sqlite.proofs.Common.{eq-eqb, eqb-true, false, fold, get_stays, length, max, nat_le}
+use Rattle.urb_sqlite.proofs.Common.{next_tree, option_and_then, option_map, record_table, refl}
+use Rattle.urb_sqlite.proofs.Common.{same_name, slice_get, subst, suc, sym, table_named, table_of}
+use Rattle.urb_sqlite.proofs.Common.{tree_of, true, zero, ℕ, ◌++◌, ◌+◌, ◌<◌, ◌==◌, ◌^◌, ◌∙◌, ◌∷◌}
+use Rattle.urb_sqlite.proofs.Common.{◌≡◌, ◌≤◌}
+use Rattle.std.proofs.Common.{find}
+use Rattle.std.specs.List.{position_from}
 use Rattle.sqlite.specs.Tree.{Trees}
 use Rattle.sqlite.specs.Table.{Table}
 use Rattle.sqlite.specs.Schema.{Schema}
-use Rattle.sqlite_schema.specs.Names.{same_name, table_named}
-use Rattle.sqlite.specs.Change.{next_tree, past_views}
+use Rattle.sqlite.specs.Change.{past_views}
 use Rattle.sqlite_catalog.specs.Change.{KeepsRows}
-use Rattle.sqlite_catalog.specs.Listing.{IsSound, IsTableRow}
-use Rattle.urb_sqlite.specs.JournalTables.{record_table, table_of, tree_of, Lacks, HasTable}
 use Rattle.urb_sqlite.proofs.StatementTexts.{found_at}
-use Rattle.urb_names.proofs.Places.{get_stays}
 
 -- ---- lists with one more
 

@@ -1,35 +1,31 @@
 -- What INSERT, SELECT and CREATE are under a schema that is not known, and CREATE under one that
 -- has the table.
-use Rattle.std.proofs.Common.{◌≡◌, ◌⊎◌, inl, inr, ℕ, ◌+◌, ◌&&◌, Bool, true, false, cond, List, []}
-use Rattle.std.proofs.Common.{◌==◌, Option, None, Some, is_some, Ok, Err, refl, sym, ap, subst, ◌∙◌}
-use Rattle.std.proofs.lemmas.Bool.{cases_Bool}
-use Rattle.sqlite_ast.specs.declared.CreateTable as ast
-use Rattle.sqlite_ast.specs.declared.Rows.{Rows}
-use Rattle.sqlite_ast.specs.declared.Statement.TheVariants as written
-use Rattle.sqlite_ast.specs.declared.Conflict.TheVariants as conflict
-use Rattle.sqlite_syntax.specs.declared.statement.Parsed.{Parsed}
+use Rattle.urb_sqlite.proofs.Common.{Bool, Compiled, Err, HasTable, Insert, List, NoSuchTable, None}
+use Rattle.urb_sqlite.proofs.Common.{Ok, Option, Parsed, Returning, Rows, Some, [], and_then, ap}
+use Rattle.urb_sqlite.proofs.Common.{cases_Bool, compiled, cond, false, first, if_select}
+use Rattle.urb_sqlite.proofs.Common.{index_named, inl, inr, is_some, listing_schema, new_rows}
+use Rattle.urb_sqlite.proofs.Common.{reads_listing, refl, subst, sym, table_named, text_of, true}
+use Rattle.urb_sqlite.proofs.Common.{understood, view_named, with_command, ℕ, ◌&&◌, ◌+◌, ◌==◌, ◌∙◌}
+use Rattle.urb_sqlite.proofs.Common.{◌≡◌, ◌⊎◌}
 use Rattle.sqlite.specs.Schema.{Schema}
 use Rattle.sqlite_schema.specs.declared.command.Source.{Source}
 use Rattle.sqlite.specs.Command.{Command}
-use Rattle.sqlite.specs.Command.TheVariants.{Insert, CreateTable, Nothing}
+use Rattle.sqlite.specs.Command.TheVariants.{CreateTable, Nothing}
 use Rattle.std.specs.Option.{option_or}
-use Rattle.sqlite_schema.specs.Names.{table_named, index_named, view_named}
-use Rattle.sqlite_resolve.specs.Define as define
-use Rattle.sqlite_resolve.specs.declared.compiled.Compiled.{Compiled}
-use Rattle.sqlite_resolve.specs.Lowering.{Checked, and_then}
+use Rattle.sqlite_resolve.specs.Lowering.{Checked}
 use Rattle.sqlite_resolve.specs.Body.{table_at}
 use Rattle.sqlite.specs.Table.{Table}
-use Rattle.sqlite_resolve.specs.Compile.{first, target, timed, creates, is_reserved, is_attached}
-use Rattle.sqlite_resolve.specs.Compile.{create_table, small, new_rows, compiled, planned, meaning}
-use Rattle.sqlite_resolve.specs.Compile.{command, returning, shows, insert_or_abort, insert}
-use Rattle.sqlite_resolve.specs.Compile.{with_command}
-use Rattle.sqlite.specs.Listing.{understood, reads_listing, is_select, if_select, listing_schema}
-use Rattle.sqlite.specs.State.{text_of}
-use Rattle.sqlite_resolve.specs.declared.error.CompileError.TheVariants.{NoSuchTable, Misuse}
-use Rattle.sqlite_resolve.specs.declared.error.CompileError.TheVariants.{Exists, Unsupported}
-use Rattle.sqlite_schema.specs.declared.command.Returning.{Returning}
-use Rattle.urb_sqlite.specs.JournalTables.{HasTable}
-use Rattle.urb_sqlite.proofs.StatementTexts.{Puts, Selects, Makes, found_at}
+use Rattle.sqlite_resolve.specs.Compile.{command, create_table, creates, insert, insert_or_abort}
+use Rattle.sqlite_resolve.specs.Compile.{is_attached, is_reserved, meaning, planned, returning}
+use Rattle.sqlite_resolve.specs.Compile.{shows, small, target, timed}
+use Rattle.sqlite.specs.Listing.{is_select}
+use Rattle.sqlite_resolve.specs.declared.error.CompileError.TheVariants.{Exists, Misuse}
+use Rattle.sqlite_resolve.specs.declared.error.CompileError.TheVariants.{Unsupported}
+use Rattle.urb_sqlite.proofs.StatementTexts.{Makes, Puts, Selects, found_at}
+use Rattle.sqlite_ast.specs.declared.CreateTable as ast
+use Rattle.sqlite_ast.specs.declared.Statement.TheVariants as written
+use Rattle.sqlite_ast.specs.declared.Conflict.TheVariants as conflict
+use Rattle.sqlite_resolve.specs.Define as define
 
 -- if a checked step gave a value, each of its parts gave one
 gone : {A B : Type 0} (r : Checked A) (f : A → Checked B) (b : B) → and_then r f ≡ Ok b

@@ -1,17 +1,16 @@
 -- If files are judged to hold no database, they hold none.
-use Rattle.std.proofs.Common.{◌≡◌, ◌≤◌, ◌<◌, ◌++◌, ◌∷◌, [], ℕ, List, Option, Some, arith, ap, codes}
-use Rattle.std.proofs.Common.{false, get_or-take, inl, inr, length, length-take, slice_index, sym}
-use Rattle.std.proofs.Common.{take, true, unwrap_or, ◌∙◌}
-use Rattle.sqlite_wal.specs.Recovery.{Image, Pages}
-use Rattle.sqlite_pool.specs.File.{header_in, IsSoundFile}
-use Rattle.sqlite_pool.specs.Stored.{reserved, sealed, stored_size, used_size, Adopts}
+use Rattle.urb_sqlite.proofs.Common.{HoldsDatabase, Image, IsBlankFile, IsNothing, List, Option}
+use Rattle.urb_sqlite.proofs.Common.{Some, [], ap, arith, codes, false, get_or-take, inl, inr}
+use Rattle.urb_sqlite.proofs.Common.{length, length-take, slice_index, sym, take, true, unwrap_or}
+use Rattle.urb_sqlite.proofs.Common.{ℕ, ◌++◌, ◌<◌, ◌∙◌, ◌∷◌, ◌≡◌, ◌≤◌}
+use Rattle.sqlite_wal.specs.Recovery.{Pages}
+use Rattle.sqlite_pool.specs.File.{IsSoundFile, header_in}
+use Rattle.sqlite_pool.specs.Stored.{Adopts, reserved, sealed, stored_size, used_size}
 use Rattle.sqlite_pool.specs.Header.{first_page}
 use Rattle.sqlite_pool.specs.StoredLaws.{trimmed_some}
 use Rattle.sqlite_wal.proofs.AppendLemmas.{some_value}
-use Rattle.sqlite_pool.specs.Opening.{IsBlankFile}
 use Rattle.sqlite_pool.proofs.ProbeLemmas.{first_byte, not_blank}
 use Rattle.sqlite_trees.specs.Tree.{Trees}
-use Rattle.sqlite.specs.Files.{HoldsDatabase, IsNothing}
 use Rattle.sqlite_wal.proofs.CreateLemmas.{begun_is_not_blank}
 
 -- Files that are judged to be blank hold no database.

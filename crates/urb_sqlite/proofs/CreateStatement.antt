@@ -1,35 +1,29 @@
 -- What CREATE TABLE IF NOT EXISTS does to a database that lacks the table, and to one that has it.
-use Rattle.std.proofs.Common.{◌≡◌, ◌⊎◌, inl, inr, ℕ, ◌+◌, ◌<◌, ◌||◌, Bool, true, false, List, []}
-use Rattle.std.proofs.Common.{◌∷◌, ◌++◌, length, slice_get, option_map, Option, None, Some, is_some}
-use Rattle.std.proofs.Common.{Ok, refl, sym, ap, subst, ◌∙◌, append-nil, append_assoc}
-use Rattle.std.specs.List.{AllByRecursion}
-use Rattle.std.proofs.lemmas.Bool.{cases_Bool, true≢false}
-use Rattle.sqlite.specs.Order.{Row}
+use Rattle.urb_sqlite.proofs.Common.{AddsTable, AllByRecursion, Bool, CommitsBy, Database, Does}
+use Rattle.urb_sqlite.proofs.Common.{Executes, ExecutesIn, HasTable, IsLonger, IsMade, IsSound}
+use Rattle.urb_sqlite.proofs.Common.{IsUnchanged, Lacks, List, None, Ok, Option, Row, Some, Tally}
+use Rattle.urb_sqlite.proofs.Common.{[], ap, append-nil, append_assoc, cases_Bool, create_text}
+use Rattle.urb_sqlite.proofs.Common.{everything, false, get_stays, has_table, index_named, inl, inr}
+use Rattle.urb_sqlite.proofs.Common.{is_journal, is_some, journal_name, length, mode_of, next_tree}
+use Rattle.urb_sqlite.proofs.Common.{option_map, record_table, refl, same_name, second_name}
+use Rattle.urb_sqlite.proofs.Common.{slice_get, subst, sym, table_defined_by, table_named, table_of}
+use Rattle.urb_sqlite.proofs.Common.{tree_of, true, view_named, ℕ, ◌++◌, ◌+◌, ◌<◌, ◌||◌, ◌∙◌, ◌∷◌}
+use Rattle.urb_sqlite.proofs.Common.{◌≡◌, ◌⊎◌}
+use Rattle.std.proofs.lemmas.Bool.{true≢false}
 use Rattle.sqlite.specs.Tree.{Trees}
 use Rattle.sqlite.specs.Table.{Table}
 use Rattle.sqlite.specs.Schema.{Schema}
 use Rattle.sqlite.specs.Command.TheVariants.{CreateTable}
-use Rattle.sqlite.specs.Change.{next_tree}
 use Rattle.sqlite_catalog.specs.Calls.{CreatesTable}
 use Rattle.sqlite_catalog.specs.Change.{is_used}
-use Rattle.sqlite_catalog.specs.Listing.{IsSound}
-use Rattle.sqlite.specs.Does.{Tally, Does, lacks_sequence, sequence_text}
-use Rattle.sqlite.specs.Effect.{Database}
-use Rattle.sqlite_schema.specs.Names.{same_name, table_named, index_named, view_named}
-use Rattle.sqlite.specs.State.{State, mode_of, IsUnchanged, Executes, ExecutesIn, CommitsBy}
-use Rattle.urb_sqlite.specs.JournalTables.{create_text, journal_name, second_name, record_table, table_of}
-use Rattle.urb_sqlite.specs.JournalTables.{tree_of, Lacks, HasTable}
-use Rattle.urb_sqlite.specs.TableShapes.{is_journal, has_table}
-use Rattle.urb_sqlite.specs.OpenJournal.{AddsTable, AddsOne, IsLonger}
-use Rattle.urb_sqlite.specs.internal.JournalChanges.{IsMade}
-use Rattle.urb_sqlite.proofs.InsertStatement.{went, same_value}
+use Rattle.sqlite.specs.Does.{lacks_sequence, sequence_text}
+use Rattle.sqlite.specs.State.{State}
+use Rattle.urb_sqlite.specs.OpenJournal.{AddsOne}
+use Rattle.urb_sqlite.proofs.InsertStatement.{same_value, went}
 use Rattle.urb_sqlite.proofs.StatementTexts.{Makes}
-use Rattle.sqlite_resolve.specs.Compile.{table_defined_by}
-use Rattle.sqlite_tied.specs.Compute.{everything}
 use Rattle.urb_sqlite.proofs.AnySchema.{create_is}
-use Rattle.urb_sqlite.proofs.AddedTables.{all_at, slice_last, has_behind, has_new}
-use Rattle.urb_sqlite.proofs.AddedTables.{kept_rows, lacks_behind, low_trees}
-use Rattle.urb_names.proofs.Places.{get_stays}
+use Rattle.urb_sqlite.proofs.AddedTables.{all_at, has_behind, has_new, kept_rows, lacks_behind}
+use Rattle.urb_sqlite.proofs.AddedTables.{low_trees, slice_last}
 
 no_other : (o : Option ℕ) (b c : Bool) → ((is_some o || b) || c) ≡ false → o ≡ None
 no_other None b c h = refl

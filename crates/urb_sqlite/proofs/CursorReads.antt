@@ -1,37 +1,27 @@
 -- Reading the rows of a table one by one, from a cursor.
-use Rattle.std.proofs.Common.{◌≡◌, ◌⊎◌, inl, inr, ℕ, ◌+◌, ◌≤◌, false, List, [], ◌∷◌, ◌++◌, length}
-use Rattle.std.proofs.Common.{Option, Some, None, Result, Ok, Err, OnErr, IfErr, refl, sym, ap, ap₂}
-use Rattle.std.proofs.Common.{subst, ◌∙◌, arith}
-use Rattle.sqlite.specs.Order.{Row}
-use Rattle.sqlite.specs.Effect.{Database}
+use Rattle.urb_sqlite.proofs.Common.{CommitsShowing, Compiled, Database, Device, Entry, Err, Error}
+use Rattle.urb_sqlite.proofs.Common.{FailsToQuery, HasCleanDisk, HasTable, Held, IfErr, IsFirstBad}
+use Rattle.urb_sqlite.proofs.Common.{IsInOrder, IsRolledBack, IsUnchanged, List, MAX_PAYLOAD}
+use Rattle.urb_sqlite.proofs.Common.{NoMemory, None, Ok, OnErr, Option, Part, Place, Result, Row}
+use Rattle.urb_sqlite.proofs.Common.{Some, StoreFault, Survives, [], ap, ap₂, arith, command_of}
+use Rattle.urb_sqlite.proofs.Common.{extended, false, inl, inr, is_bad_row, joined, length}
+use Rattle.urb_sqlite.proofs.Common.{limit_of, name_of, read_from, reads_listing, record_at, refl}
+use Rattle.urb_sqlite.proofs.Common.{select_of, state, subst, survives_weaker, sym, table_rows}
+use Rattle.urb_sqlite.proofs.Common.{tree_of, understood, ℕ, ◌++◌, ◌+◌, ◌∙◌, ◌∷◌, ◌≡◌, ◌≤◌, ◌⊎◌}
 use Rattle.sqlite.specs.Clock.{timed}
-use Rattle.sqlite.specs.declared.error.Error.{Error}
 use Rattle.sqlite_trees.specs.declared.store.Store.{Ghosts}
 use Rattle.sqlite_schema.specs.declared.schema.Schema.{Schema}
-use Rattle.sqlite_resolve.specs.declared.compiled.Compiled.{Compiled}
 use Rattle.sqlite_resolve.specs.declared.error.CompileError.{CompileError}
-use Rattle.sqlite.specs.Listing.{understood, reads_listing, IsSourceOf}
-use Rattle.sqlite.specs.Held.{Held, state}
-use Rattle.sqlite.specs.Given.{Returns, HasGiven, HasBegun, IsRefused, GivesOn}
-use Rattle.sqlite.specs.State.{State, IsUnchanged, IsRolledBack, IsStatement, ShowsRows, Shown}
-use Rattle.sqlite.specs.State.{Begins, FailsToQuery, HasCleanDisk, Survives, CommitsShowing}
-use Rattle.sqlite.proofs.StateLemmas.{survives_weaker}
-use Rattle.sqlite.proofs.Callers.{command_of, EndsIn, given_begin, begins_shown}
-use Rattle.urb_stable.specs.Entries.{Entry}
-use Rattle.urb_stable.specs.StableStorage.{is_bad_row}
-use Rattle.urb_stable.specs.declared.stable.StoreFault.{StoreFault}
-use Rattle.urb_stable.specs.declared.stable.StoreFault.TheVariants.{NoMemory, Device, BadRow, Place}
-use Rattle.urb_names.specs.declared.limits.TheConstants.{MAX_PAYLOAD}
-use Rattle.urb_sqlite.specs.declared.sql.Part.{Part}
-use Rattle.urb_sqlite.specs.JournalTables.{limit_of, tree_of, HasTable}
-use Rattle.urb_sqlite.specs.internal.JournalStatements.{select_of, name_of}
-use Rattle.urb_sqlite.specs.RecordRows.{table_rows, IsInOrder, IsFirstBad}
-use Rattle.urb_sqlite.specs.RowReadings.{record_at, joined, extended, read_from}
-use Rattle.urb_sqlite.proofs.StatementTexts.{select_parsed, select_is}
+use Rattle.sqlite.specs.Listing.{IsSourceOf}
+use Rattle.sqlite.specs.Given.{GivesOn, HasBegun, HasGiven, IsRefused, Returns}
+use Rattle.sqlite.specs.State.{Begins, IsStatement, Shown, ShowsRows, State}
+use Rattle.sqlite.proofs.Callers.{EndsIn, begins_shown, given_begin}
+use Rattle.urb_stable.specs.declared.stable.StoreFault.TheVariants.{BadRow}
+use Rattle.urb_sqlite.proofs.StatementTexts.{select_is, select_parsed}
 use Rattle.urb_sqlite.proofs.AnySchema.{reads_in_any}
-use Rattle.urb_sqlite.proofs.SpelledRows.{went_on, first_bad}
-use Rattle.urb_sqlite.proofs.KeptRecords.{left_by_query, select_commits_nothing, shown_if_read}
-use Rattle.urb_sqlite.proofs.KeptRecords.{in_order}
+use Rattle.urb_sqlite.proofs.SpelledRows.{first_bad, went_on}
+use Rattle.urb_sqlite.proofs.KeptRecords.{in_order, left_by_query, select_commits_nothing}
+use Rattle.urb_sqlite.proofs.KeptRecords.{shown_if_read}
 use Rattle.urb_sqlite.proofs.TableReadings.{unchanged_then}
 
 -- ---- rows behind others

@@ -1,14 +1,12 @@
 -- The opening of a journal finds the records that its files hold; and files that a stop left.
-use Rattle.std.proofs.Common.{List, [], inl, inr, sym, ⊎_elim, ◌∙◌, ◌≡◌, ◌⊎◌}
-use Rattle.sqlite.specs.Files.{HoldsDatabase}
+use Rattle.urb_sqlite.proofs.Common.{Entry, HoldsDatabase, Image, IsBase, IsFoundIn, IsJournal}
+use Rattle.urb_sqlite.proofs.Common.{LeavesOnly, List, StandsFor, [], inl, inr, sym, ⊎_elim, ◌∙◌}
+use Rattle.urb_sqlite.proofs.Common.{◌≡◌, ◌⊎◌}
 use Rattle.sqlite.specs.State.{State}
 use Rattle.sqlite_trees.specs.Tree.{Trees}
-use Rattle.sqlite_wal.specs.Recovery.{Image}
 use Rattle.urb_sqlite.proofs.StoredRows.{records_are}
-use Rattle.urb_sqlite.specs.FoundJournals.{HoldsRecords, IsFoundIn}
-use Rattle.urb_sqlite.specs.OpenJournal.{IsBase, IsJournal, LeavesOnly, base_of}
-use Rattle.urb_sqlite.specs.RecordRows.{StandsFor}
-use Rattle.urb_stable.specs.Entries.{Entry}
+use Rattle.urb_sqlite.specs.FoundJournals.{HoldsRecords}
+use Rattle.urb_sqlite.specs.OpenJournal.{base_of}
 
 -- what is found is what the files hold
 pub found_as_held : (image : Image) (is_clean is_honest : Type 0) (found records : List Entry)

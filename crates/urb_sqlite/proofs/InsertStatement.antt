@@ -1,39 +1,31 @@
 -- What an INSERT does to the table of its name.
-use Rattle.std.proofs.Common.{◌≡◌, ◌⊎◌, inl, inr, ℕ, pos, List, [], append-nil, Bool, true, false}
-use Rattle.std.proofs.Common.{cond, None, Ok, Err, Result, IsTrue, refl, sym, ap, subst, ◌∙◌, ◌∷◌}
-use Rattle.std.proofs.Common.{◌==◌, ◌&&◌, Option, Some, length, slice_get, ◌≢◌}
-use Rattle.std.specs.List.{AllByRecursion, filter_map}
-use Rattle.sqlite_catalog.specs.Listing.{IsSound}
+use Rattle.urb_sqlite.proofs.Common.{AllByRecursion, AtPlace, Bool, CommitsBy, Database, Does}
+use Rattle.urb_sqlite.proofs.Common.{Enforced, Err, Executes, HasTable, Insert, Int, Integer}
+use Rattle.urb_sqlite.proofs.Common.{IsPlain, IsSound, IsTrue, List, None, Null, Ok, OnRows, Option}
+use Rattle.urb_sqlite.proofs.Common.{Result, Row, Some, Tally, Value, Values, [], ap, append-nil}
+use Rattle.urb_sqlite.proofs.Common.{columns_of, command_of, cond, false, inl, inr, length, mode_of}
+use Rattle.urb_sqlite.proofs.Common.{pos, put_row, record_table, refl, slice_get, subst, sym}
+use Rattle.urb_sqlite.proofs.Common.{text_of, tree_of, true, understood, ℕ, ◌&&◌, ◌==◌, ◌∙◌, ◌∷◌}
+use Rattle.urb_sqlite.proofs.Common.{◌≡◌, ◌≢◌, ◌⊎◌}
+use Rattle.std.specs.List.{filter_map}
 use Rattle.sqlite_trees.proofs.ListLemmas.{flat_map_none}
-use Rattle.sqlite.specs.declared.types.Value.{Value}
-use Rattle.sqlite.specs.declared.types.Value.TheVariants.{Null, Int}
-use Rattle.sqlite.specs.Order.{Row}
 use Rattle.sqlite.specs.Ops.{unary}
-use Rattle.sqlite.specs.Kind.TheVariants.{Integer}
-use Rattle.sqlite.specs.Source.TheVariants.{Values}
-use Rattle.sqlite.specs.Command.TheVariants.{Insert}
 use Rattle.sqlite.specs.Edit.{edit_of, edited}
 use Rattle.sqlite.specs.Cast.{cast}
 use Rattle.sqlite.specs.Rowids.TheVariants.{Chosen}
-use Rattle.sqlite.specs.Does.{Tally, Does, AtPlace, OnRows}
 use Rattle.sqlite.specs.Rows.{Written}
-use Rattle.sqlite.specs.Tree.{Trees, put_row}
-use Rattle.sqlite.specs.Listing.{understood}
-use Rattle.sqlite.specs.Effect.{Database}
-use Rattle.sqlite.specs.State.{State, mode_of, text_of, Executes, CommitsBy}
-use Rattle.sqlite.proofs.Callers.{IsPlain, command_of, statement_of, runs_as, one_step}
+use Rattle.sqlite.specs.Tree.{Trees}
+use Rattle.sqlite.specs.State.{State}
+use Rattle.sqlite.proofs.Callers.{one_step, runs_as, statement_of}
 use Rattle.sqlite_schema.specs.declared.schema.Schema.{Schema}
 use Rattle.sqlite_schema.specs.declared.schema.Table.{Table}
 use Rattle.sqlite_schema.specs.declared.schema.Reference.{Reference}
 use Rattle.sqlite_schema.specs.declared.schema.Keys.{Keys}
-use Rattle.sqlite_schema.specs.declared.schema.Keys.TheVariants.{Enforced}
 use Rattle.sqlite_schema.specs.Rules.{ParentKey, parent_key}
 use Rattle.sqlite_rules.specs.declared.action.Deed.{Deed}
-use Rattle.sqlite_rules.specs.Action.{works, work_by, work_for, deed_for}
-use Rattle.urb_sqlite.specs.JournalTables.{record_table, tree_of, HasTable}
-use Rattle.urb_sqlite.specs.RecordRows.{columns_of}
+use Rattle.sqlite_rules.specs.Action.{deed_for, work_by, work_for, works}
 use Rattle.urb_sqlite.specs.internal.TreeRows.{kept_row}
-use Rattle.urb_sqlite.proofs.StatementTexts.{Puts, terms, insert_is}
+use Rattle.urb_sqlite.proofs.StatementTexts.{Puts, insert_is, terms}
 
 either : (b : Bool) (x : Value) → cond b x x ≡ x
 either true x = refl

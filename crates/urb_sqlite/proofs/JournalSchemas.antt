@@ -1,27 +1,23 @@
 -- A file whose tables are those of a journal opens with the journal's schema.
-use Rattle.std.proofs.Common.{◌≡◌, ℕ, ◌+◌, pos, List, [], ◌∷◌, filter, find, false, nat_le, ◌==◌}
-use Rattle.std.proofs.Common.{◌^◌, Some, Ok, refl, sym, ap, ap₂, subst, ◌∙◌, arith}
-use Rattle.std.proofs.Common.{length, inl, inr}
-use Rattle.std.specs.List.{AllZip}
-use Rattle.sqlite.specs.declared.types.Value.TheVariants.{Int, Text}
-use Rattle.sqlite.specs.Order.{Row, column}
-use Rattle.sqlite.specs.Tree.{Trees, rowid}
+use Rattle.urb_sqlite.proofs.Common.{AllZip, Database, HasTable, Image, Int, IsAdoptable, IsBase}
+use Rattle.urb_sqlite.proofs.Common.{IsHonestJournal, IsJournal, IsLive, IsNothing, IsSound}
+use Rattle.urb_sqlite.proofs.Common.{IsTableRow, Lacks, List, Ok, Opens, Row, Some, StandsFor, Text}
+use Rattle.urb_sqlite.proofs.Common.{[], ap, ap₂, arith, catalog_tree, column, database_of, false}
+use Rattle.urb_sqlite.proofs.Common.{filter, inl, inr, journal_name, length, nat_le, pos}
+use Rattle.urb_sqlite.proofs.Common.{record_table, records_of, refl, rowid, second_name, subst, sym}
+use Rattle.urb_sqlite.proofs.Common.{table_of, table_rows, tree_of, ℕ, ◌+◌, ◌==◌, ◌^◌, ◌∙◌, ◌∷◌}
+use Rattle.urb_sqlite.proofs.Common.{◌≡◌}
+use Rattle.std.proofs.Common.{find}
+use Rattle.sqlite.specs.Tree.{Trees}
 use Rattle.sqlite.specs.Table.{Table}
 use Rattle.sqlite.specs.Schema.{Schema}
-use Rattle.sqlite_trees.specs.Objects.{catalog_tree}
-use Rattle.sqlite_catalog.specs.Listing.{IsSound, IsTableRow, IsIndexRow, IsViewRow, is_table_row}
-use Rattle.sqlite_catalog.specs.Listing.{is_index_row, is_view_row}
-use Rattle.sqlite.specs.Effect.{Database}
-use Rattle.sqlite.specs.State.{State, IsLive, Opens}
-use Rattle.urb_sqlite.specs.JournalTables.{record_table, table_of, tree_of, journal_name, second_name}
-use Rattle.urb_sqlite.specs.JournalTables.{Lacks, HasTable, MayTake, IsAdoptable}
+use Rattle.sqlite_catalog.specs.Listing.{IsIndexRow, IsViewRow, is_index_row, is_table_row}
+use Rattle.sqlite_catalog.specs.Listing.{is_view_row}
+use Rattle.sqlite.specs.State.{State}
+use Rattle.urb_sqlite.specs.JournalTables.{MayTake}
 use Rattle.urb_sqlite.specs.internal.JournalStatements.{no_schema}
-use Rattle.sqlite.specs.Files.{AreFoundIn, IsNothing}
-use Rattle.sqlite_wal.specs.Recovery.{Image}
-use Rattle.urb_sqlite.specs.RecordRows.{table_rows, StandsFor}
-use Rattle.urb_sqlite.specs.RowReadings.{records_of}
-use Rattle.urb_sqlite.specs.OpenJournal.{IsBare, IsBase, IsHonestJournal, IsJournal, base_of}
-use Rattle.urb_sqlite.specs.OpenJournal.{database_of}
+use Rattle.sqlite.specs.Files.{AreFoundIn}
+use Rattle.urb_sqlite.specs.OpenJournal.{IsBare, base_of}
 use Rattle.std.proofs.lemmas.Grind.{not_there}
 use Rattle.urb_sqlite.proofs.BlankFiles.{holds_something}
 use Rattle.urb_sqlite.proofs.StoredRows.{stands_same}

@@ -1,38 +1,33 @@
 -- What the next opening finds, depending on what a stop leaves.
-use Rattle.std.proofs.Common.{◌≡◌, ◌⊎◌, inl, inr, ℕ, zero, suc, ◌+◌, ◌≤◌, Bool, true, false, ◌==◌}
-use Rattle.std.proofs.Common.{List, [], ◌∷◌, ◌++◌, length, length-append, Option, None, Some}
-use Rattle.std.proofs.Common.{Result, Ok, Err, IfOk, OnOk, IsTrue, refl, sym, ap, subst, ◌∙◌, arith}
-use Rattle.std.proofs.Math.Logic.{∥∥₁_elim, ∥∥₁_map}
-use Rattle.std.specs.Coded.{Coded, Coded-set, code_by, coded×, coded_ℕ, coded_list, coded_option}
-use Rattle.std.specs.Coded.{coded_bool}
-use Rattle.std.proofs.lemmas.Bool.{eqb-true, eq-eqb, true≢false, and_parts, and_from}
+use Rattle.urb_sqlite.proofs.Common.{Bool, Cert, Content, Entry, Err, HasCleanDisk, Held}
+use Rattle.urb_sqlite.proofs.Common.{HoldsDatabase, IfOk, Image, IsHonestJournal, IsJournal}
+use Rattle.urb_sqlite.proofs.Common.{IsSafeAtRest, IsTrue, Label, LeavesOnly, List, None, Ok, OnOk}
+use Rattle.urb_sqlite.proofs.Common.{Option, Pend, PendCert, Result, Some, StandsFor, [], ap, arith}
+use Rattle.urb_sqlite.proofs.Common.{database_of, eq-eqb, eqb-true, false, file_state, inl, inr}
+use Rattle.urb_sqlite.proofs.Common.{length, length-append, no_doubt, records_of, refl, subst, suc}
+use Rattle.urb_sqlite.proofs.Common.{sym, true, view, zero, ℕ, ∥∥₁_map, ◌++◌, ◌+◌, ◌==◌, ◌∙◌, ◌∷◌}
+use Rattle.urb_sqlite.proofs.Common.{◌≡◌, ◌≤◌, ◌⊎◌}
+use Rattle.std.proofs.Math.Logic.{∥∥₁_elim}
+use Rattle.std.specs.Coded.{Coded, Coded-set, code_by, coded_bool, coded_list, coded_option}
+use Rattle.std.specs.Coded.{coded_ℕ, coded×}
+use Rattle.std.proofs.lemmas.Bool.{and_from, and_parts, true≢false}
 use Rattle.sqlite_disk.specs.declared.Disk.{Ghosts}
-use Rattle.sqlite_wal.specs.Recovery.{Image}
 use Rattle.sqlite_wal.specs.Files.{outcomes, seen_image}
 use Rattle.sqlite_wal.specs.Reads.{AreClean}
-use Rattle.sqlite_pool.specs.Pool as pool
 use Rattle.sqlite_pool.specs.declared.pool.Pool.{Pool}
 use Rattle.sqlite_pool.proofs.StateLemmas.{may_leave_is}
 use Rattle.sqlite_store.specs.declared.store.FileStore.{FileStore}
-use Rattle.sqlite_store.specs.FileStore.{view, files, recovers}
+use Rattle.sqlite_store.specs.FileStore.{files, recovers}
 use Rattle.sqlite_trees.specs.View.{IsClean, doubt}
-use Rattle.sqlite_trees.proofs.Doubt.{no_doubt}
 use Rattle.sqlite_trees.specs.Tree.{Trees}
-use Rattle.sqlite.specs.State.{State, HasCleanDisk}
-use Rattle.sqlite.specs.Held.{Held, AreDatabases}
-use Rattle.sqlite.specs.Files.{HoldsDatabase, file_state}
+use Rattle.sqlite.specs.State.{State}
+use Rattle.sqlite.specs.Held.{AreDatabases}
 use Rattle.sqlite.proofs.Theorems.{opens_again}
-use Rattle.urb_names.specs.LabelsAndContents.{Label, Content}
-use Rattle.urb_stable.specs.Entries.{Entry}
 use Rattle.urb_stable.specs.StableStorage.{IsContents}
-use Rattle.urb_stable.specs.declared.record.Record.TheVariants.{Pend, PendCert, Cert}
-use Rattle.sqlite_schema.specs.contracts.schema.Table as table
-use Rattle.urb_sqlite.specs.RecordRows.{StandsFor}
-use Rattle.urb_sqlite.specs.RowReadings.{records_of}
-use Rattle.urb_sqlite.specs.OpenJournal.{IsHonestJournal, IsJournal, IsSafeAtRest, LeavesOnly}
-use Rattle.urb_sqlite.specs.OpenJournal.{database_of}
 use Rattle.urb_sqlite.specs.ReopenedJournals.{IsFoundAfter}
 use Rattle.urb_sqlite.proofs.StoredRows.{records_are}
+use Rattle.sqlite_pool.specs.Pool as pool
+use Rattle.sqlite_schema.specs.contracts.schema.Table as table
 
 -- a store is clean if both of its files are clean
 pub store_clean : {D : Type 0} {g : Ghosts D} (it : Pool D g)

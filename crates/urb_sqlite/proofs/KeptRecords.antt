@@ -1,52 +1,37 @@
 -- What each statement of a journal does to the journal's records.
-use Rattle.std.proofs.Common.{◌≡◌, ◌≢◌, ◌⊎◌, inl, inr, ℕ, ◌+◌, ◌<◌, ◌≤◌, false, List, [], ◌∷◌, ◌++◌}
-use Rattle.std.proofs.Common.{map, length-append, slice_get, Option, Some, None, Ok, Err, IsTrue}
-use Rattle.std.proofs.Common.{refl, sym, ap, subst, ◌∙◌, arith}
-use Rattle.std.proofs.lemmas.Bool.{cases_Bool}
-use Rattle.sqlite.specs.Order.{Row}
+use Rattle.urb_sqlite.proofs.Common.{AllByRecursion, AtPlace, Cert, CommitsBy, CommitsShowing}
+use Rattle.urb_sqlite.proofs.Common.{Database, Device, Enforced, Entry, Err, Error, Executes}
+use Rattle.urb_sqlite.proofs.Common.{ExecutesIn, FailsToQuery, HasBoth, HasCleanDisk, HasTable}
+use Rattle.urb_sqlite.proofs.Common.{Insert, IsAppended, IsCounted, IsEntry, IsHonestJournal}
+use Rattle.urb_sqlite.proofs.Common.{IsInOrder, IsInStep, IsJournal, IsKept, IsLeft, IsLive}
+use Rattle.urb_sqlite.proofs.Common.{IsPermutation-sort_by, IsPermutation-trans, IsRolledBack}
+use Rattle.urb_sqlite.proofs.Common.{IsSafeAtRest, IsShutJournal, IsSound, IsTrue, IsUnchanged}
+use Rattle.urb_sqlite.proofs.Common.{IsWithin, KeepsCommit, LeavesOnly, List, NoMemory, None, Ok}
+use Rattle.urb_sqlite.proofs.Common.{OnRows, Option, Part, Pend, PendCert, Place, Row, Second, Some}
+use Rattle.urb_sqlite.proofs.Common.{StandsFor, StoreFault, Survives, Tally, [], ap, arith, by_pos}
+use Rattle.urb_sqlite.proofs.Common.{cases_Bool, database_of, false, inl, inr, insert_text}
+use Rattle.urb_sqlite.proofs.Common.{is_bad_row, journal_name, kept_of, length-append, limit_of}
+use Rattle.urb_sqlite.proofs.Common.{map, mode_of, name_of, read_from, records_of, refl, row_of}
+use Rattle.urb_sqlite.proofs.Common.{rows_in, second_name, select_of, shown, slice_get}
+use Rattle.urb_sqlite.proofs.Common.{sorted_unique, subst, sym, table_rows, text_of, tree_of, ℕ}
+use Rattle.urb_sqlite.proofs.Common.{◌++◌, ◌+◌, ◌<◌, ◌∙◌, ◌∷◌, ◌≡◌, ◌≢◌, ◌≤◌, ◌⊎◌}
 use Rattle.sqlite.specs.Tree.{Trees}
 use Rattle.sqlite.specs.View.{doubt}
-use Rattle.std.proofs.lemmas.List.Sorted.{IsPermutation-sym, IsPermutation-trans}
-use Rattle.sqlite_keyed.proofs.SortLemmas.{sorted_unique, IsPermutation-sort_by}
-use Rattle.sqlite.specs.Effect.{Database, IsDatabase}
+use Rattle.std.proofs.lemmas.List.Sorted.{IsPermutation-sym}
+use Rattle.sqlite.specs.Effect.{IsDatabase}
 use Rattle.sqlite_schema.specs.declared.schema.Schema.{Schema}
-use Rattle.sqlite.specs.declared.error.Error.{Error}
 use Rattle.sqlite.specs.Clock.{timed}
-use Rattle.sqlite.specs.Does.{Tally, AtPlace, OnRows}
-use Rattle.sqlite_schema.specs.declared.schema.Keys.TheVariants.{Enforced}
 use Rattle.sqlite_schema.specs.declared.command.Source.{Source}
 use Rattle.sqlite.specs.Table.{Table}
-use Rattle.sqlite.specs.Command.TheVariants.{Insert}
-use Rattle.sqlite.specs.State.{State, IsLive, mode_of, text_of, Runs, Writes, HasCleanDisk}
-use Rattle.sqlite.specs.State.{Executes, ExecutesIn, IsNotRun, IsUnchanged, IsRolledBack}
-use Rattle.sqlite.specs.State.{KeepsCommit, shows_rows, Shown, Survives, CommitsBy, CommitsShowing}
-use Rattle.sqlite.specs.State.{FailsToQuery}
-use Rattle.urb_stable.specs.Entries.{Entry, IsEntry}
-use Rattle.urb_stable.specs.StableStorage.{is_bad_row}
-use Rattle.urb_stable.specs.declared.stable.StoreFault.{StoreFault}
-use Rattle.urb_stable.specs.declared.stable.StoreFault.TheVariants.{BadRow, Device, NoMemory, Place}
-use Rattle.urb_stable.specs.declared.record.Record.TheVariants.{Pend, PendCert, Cert}
-use Rattle.urb_sqlite.specs.JournalTables.{limit_of, tree_of, HasTable, HasBoth, journal_name}
-use Rattle.urb_sqlite.specs.JournalTables.{second_name}
-use Rattle.urb_sqlite.specs.internal.JournalStatements.{insert_text, select_of, name_of}
-use Rattle.urb_sqlite.specs.declared.sql.Part.{Part}
-use Rattle.urb_sqlite.specs.declared.sql.Part.TheVariants.{Second}
-use Rattle.std.specs.List.{AllByRecursion}
+use Rattle.sqlite.specs.State.{IsNotRun, Runs, Shown, State, Writes, shows_rows}
+use Rattle.urb_stable.specs.declared.stable.StoreFault.TheVariants.{BadRow}
 use Rattle.urb_sqlite.proofs.AddedTables.{all_at, trees_differ}
-use Rattle.urb_sqlite.specs.OpenJournal.{IsJournal, database_of, IsHonestJournal, IsSafeAtRest}
-use Rattle.urb_sqlite.specs.OpenJournal.{IsShutJournal, LeavesOnly}
-use Rattle.sqlite_catalog.specs.Listing.{IsSound}
-use Rattle.urb_sqlite.proofs.StatementTexts.{insert_parsed, select_parsed, found_at}
-use Rattle.urb_sqlite.specs.RecordRows.{row_of, rows_in, by_pos, shown, IsWithin, IsInOrder, table_rows}
-use Rattle.urb_sqlite.specs.RecordRows.{StandsFor}
-use Rattle.urb_sqlite.specs.internal.TreeRows.{kept_of}
-use Rattle.urb_sqlite.specs.RowReadings.{read_from, records_of}
-use Rattle.urb_sqlite.specs.internal.JournalChanges.{IsCounted, IsKept, IsInStep, IsAppended, IsLeft}
-use Rattle.urb_sqlite.proofs.InsertStatement.{IsPut, HasPut, inserts, commits_put, went, same_value}
+use Rattle.urb_sqlite.proofs.StatementTexts.{found_at, insert_parsed, select_parsed}
+use Rattle.urb_sqlite.proofs.InsertStatement.{HasPut, IsPut, commits_put, inserts, same_value, went}
 use Rattle.urb_sqlite.proofs.AnySchema.{inserts_in_any, reads_in_any}
 use Rattle.urb_sqlite.proofs.SortOrder.{sort_is}
 use Rattle.urb_sqlite.proofs.SelectStatement.{selects}
-use Rattle.urb_sqlite.proofs.StoredRows.{stands_more, rows_there, records_are, placed, by_pos_total}
+use Rattle.urb_sqlite.proofs.StoredRows.{by_pos_total, placed, records_are, rows_there, stands_more}
 
 -- equal schemas, and equal databases, have the same tables
 pub same_first : {new old : Schema} → new ≡ old → HasBoth old → HasBoth new

@@ -12,6 +12,7 @@
 -- (`second_given_back`). JournalSchemas, NodeJournals and JournalStops come last: what an opening
 -- finds in the files (`found_there`), and after a stop (`found_again`). FoundRecords says that it
 -- finds the records that the files hold (`found_as_held`).
+mod Common
 pub mod ResolvedSelects
 pub mod StatementTexts
 pub mod InsertStatement

@@ -1,18 +1,14 @@
 -- What an opening finds, depending on what the files held, and one more journal after others.
-use Rattle.std.proofs.Common.{IsSome, List, MatchOption, None, Option, Some, [], arith, inl, inr, length}
-use Rattle.std.proofs.Common.{refl, slice_get, subst, suc, zero, ℕ, ◌++◌, ◌+◌, ◌<◌, ◌∷◌, ◌≡◌, ◌≤◌}
+use Rattle.urb_sqlite.proofs.Common.{Entry, HasCleanDisk, HoldsDatabase, Image, IsBlankFile}
+use Rattle.urb_sqlite.proofs.Common.{IsFoundIn, IsHonestJournal, IsLive, IsNothing, IsSome}
+use Rattle.urb_sqlite.proofs.Common.{IsTakenOver, Lacks, List, MAX_NODES, MatchOption, None, Opens}
+use Rattle.urb_sqlite.proofs.Common.{Option, Some, [], arith, inl, inr, journal_name, length}
+use Rattle.urb_sqlite.proofs.Common.{records_of, refl, second_name, slice_get, subst, suc, zero, ℕ}
+use Rattle.urb_sqlite.proofs.Common.{◌++◌, ◌+◌, ◌<◌, ◌∷◌, ◌≡◌, ◌≤◌}
 use Rattle.sqlite_trees.specs.Tree.{Trees}
-use Rattle.sqlite_wal.specs.Recovery.{Image}
-use Rattle.sqlite_pool.specs.Opening.{IsBlankFile}
-use Rattle.sqlite.specs.Files.{HoldsDatabase, IsNothing}
 use Rattle.sqlite.specs.Start.{FindsIn}
-use Rattle.sqlite.specs.State.{State, HasCleanDisk, IsLive, Opens}
-use Rattle.urb_names.specs.declared.limits.TheConstants.{MAX_NODES}
-use Rattle.urb_stable.specs.Entries.{Entry}
-use Rattle.urb_sqlite.specs.JournalTables.{journal_name, second_name, Lacks}
-use Rattle.urb_sqlite.specs.FoundJournals.{IsFoundIf, IsFoundIn}
-use Rattle.urb_sqlite.specs.OpenJournal.{IsHonestJournal, IsTakenOver}
-use Rattle.urb_sqlite.specs.RowReadings.{records_of}
+use Rattle.sqlite.specs.State.{State}
+use Rattle.urb_sqlite.specs.FoundJournals.{IsFoundIf}
 use Rattle.urb_sqlite.proofs.JournalSchemas.{empty_is_nothing, finds_bare, finds_base}
 use Rattle.urb_sqlite.proofs.JournalSchemas.{finds_journal, finds_nothing}
 use Rattle.urb_sqlite.proofs.KeptRecords.{earlier_clean}

@@ -1,18 +1,11 @@
 -- What an opening finds: both tables are there, and they stand for the records that were there
 -- before.
-use Rattle.std.proofs.Common.{◌≡◌, ℕ, ◌+◌, List, [], ◌++◌, length, Ok, sym, ap, ◌∙◌}
-use Rattle.sqlite.specs.Effect.{Database}
-use Rattle.sqlite.specs.Order.{Row}
-use Rattle.urb_stable.specs.Entries.{Entry}
-use Rattle.urb_sqlite.specs.JournalTables.{limit_of, journal_name, second_name, Lacks, HasTable}
-use Rattle.urb_sqlite.specs.declared.sql.Part.TheVariants.{First, Second}
-use Rattle.urb_sqlite.specs.RecordRows.{by_pos, shown, table_rows, StandsFor}
-use Rattle.urb_sqlite.specs.RowReadings.{read_from, records_of}
-use Rattle.sqlite_keyed.specs.Lists.{sort_by}
-use Rattle.std.proofs.Common.{map}
-use Rattle.urb_sqlite.specs.OpenJournal.{AddsTable}
-use Rattle.urb_sqlite.proofs.StoredRows.{stands_by, stands_same, records_are, rows_there}
-use Rattle.urb_sqlite.proofs.StoredRows.{rows_absent}
+use Rattle.urb_sqlite.proofs.Common.{AddsTable, Database, Entry, First, HasTable, Lacks, List, Ok}
+use Rattle.urb_sqlite.proofs.Common.{Row, Second, StandsFor, [], ap, by_pos, journal_name, length}
+use Rattle.urb_sqlite.proofs.Common.{limit_of, map, read_from, records_of, second_name, shown}
+use Rattle.urb_sqlite.proofs.Common.{sort_by, sym, table_rows, ℕ, ◌++◌, ◌+◌, ◌∙◌, ◌≡◌}
+use Rattle.urb_sqlite.proofs.StoredRows.{records_are, rows_absent, rows_there, stands_by}
+use Rattle.urb_sqlite.proofs.StoredRows.{stands_same}
 
 -- the table of a name keeps its rows if another table is added after it
 pub rows_kept : (old new : Database) (name added : List ℕ) → AddsTable old new added

@@ -1,23 +1,17 @@
 -- What a refused opening leaves: the first table was refused, or the second after it.
-use Rattle.std.proofs.Common.{◌≡◌, inl, inr, ℕ, ◌+◌, List, [], length, false}
-use Rattle.std.proofs.Common.{sym, ap, subst, ◌∙◌, arith}
-use Rattle.std.specs.Prelude.{map, IsPermutation, Result, Ok, Err, IfErr}
-use Rattle.sqlite.specs.Effect.{Database}
-use Rattle.sqlite.specs.Order.{Row}
-use Rattle.sqlite.proofs.StateLemmas.{survives_weaker}
-use Rattle.sqlite.specs.State.{State, HasCleanDisk, KeepsCommit, Survives, CommitsBy}
-use Rattle.urb_stable.specs.Entries.{Entry}
-use Rattle.urb_stable.specs.StableStorage.{is_bad_row, is_place}
-use Rattle.urb_stable.specs.declared.stable.StoreFault.{StoreFault}
+use Rattle.urb_sqlite.proofs.Common.{AddsTable, CommitsBy, CommitsEither, Database, Entry, Err}
+use Rattle.urb_sqlite.proofs.Common.{First, HasCleanDisk, HasJournal, HasTable, IfErr, IsAdoptable}
+use Rattle.urb_sqlite.proofs.Common.{IsFirstBad, IsLonger, IsPartOpened, IsPartRefused}
+use Rattle.urb_sqlite.proofs.Common.{IsPermutation, KeepsCommit, Lacks, List, Ok, Result, Row}
+use Rattle.urb_sqlite.proofs.Common.{Second, Spells, StoreFault, Survives, [], ap, arith}
+use Rattle.urb_sqlite.proofs.Common.{create_text, false, inl, inr, is_bad_row, is_place}
+use Rattle.urb_sqlite.proofs.Common.{journal_name, length, limit_of, map, second_name, second_text}
+use Rattle.urb_sqlite.proofs.Common.{shown, subst, survives_weaker, sym, table_rows, ℕ, ◌+◌, ◌∙◌}
+use Rattle.urb_sqlite.proofs.Common.{◌≡◌}
+use Rattle.sqlite.specs.State.{State}
 use Rattle.urb_stable.specs.declared.stable.StoreFault.TheVariants.{BadRow}
-use Rattle.urb_sqlite.specs.declared.sql.Part.TheVariants.{First, Second}
-use Rattle.urb_sqlite.specs.JournalTables.{create_text, journal_name, second_name, limit_of}
-use Rattle.urb_sqlite.specs.JournalTables.{Lacks, HasTable, HasJournal, IsAdoptable}
-use Rattle.urb_sqlite.specs.internal.JournalStatements.{second_text}
-use Rattle.urb_sqlite.specs.OpenJournal.{AddsTable, IsLonger, KeepsRows, SparesRows, IsGivenBack}
-use Rattle.urb_sqlite.specs.OpenJournal.{CommitsEither}
-use Rattle.urb_sqlite.specs.internal.PartOpening.{IsPartOpened, IsPartRefused}
-use Rattle.urb_sqlite.specs.RecordRows.{shown, table_rows, Spells, IsFirstBad, IsFirstBadOf}
+use Rattle.urb_sqlite.specs.OpenJournal.{IsGivenBack, KeepsRows, SparesRows}
+use Rattle.urb_sqlite.specs.RecordRows.{IsFirstBadOf}
 use Rattle.urb_sqlite.proofs.CreateStatement.{longer_then}
 use Rattle.urb_sqlite.proofs.KeptRecords.{earlier_clean, keeps_if_left, keeps_then}
 use Rattle.urb_sqlite.proofs.OpenedTables.{rows_none}

@@ -1,60 +1,55 @@
 -- What a SELECT of plain columns means if its one table is found by its name.
-use Rattle.std.proofs.Common.{◌≡◌, ℕ, suc, ◌+◌, ◌-◌, ◌++◌, Bool, true, false, nat_lt, List, [], ◌∷◌}
-use Rattle.std.proofs.Common.{map, None, Some, Ok, refl, ap, ◌∙◌, slice_get, pos, negsuc}
+use Rattle.urb_sqlite.proofs.Common.{Bool, Compiled, Core, Int, List, None, Ok, Parsed, Rows}
+use Rattle.urb_sqlite.proofs.Common.{Select, Some, Sort, [], accepts_program, and_then, ap}
+use Rattle.urb_sqlite.proofs.Common.{compiled, declared, false, first, lower, map, max_budget}
+use Rattle.urb_sqlite.proofs.Common.{nat_lt, negsuc, place_of, pos, query_of, reads_listing, refl}
+use Rattle.urb_sqlite.proofs.Common.{slice_get, suc, table_named, true, understood, with_command, ℕ}
+use Rattle.urb_sqlite.proofs.Common.{◌++◌, ◌+◌, ◌-◌, ◌∙◌, ◌∷◌, ◌≡◌}
 use Rattle.sqlite_ast.specs.declared.Expr.{Expr, out-Expr}
 use Rattle.sqlite_ast.specs.declared.Expr.TheOpen.{Expr-F, Shown-F}
 use Rattle.sqlite_ast.specs.declared.Shown.{Shown, out-Shown}
-use Rattle.sqlite_ast.specs.declared.Origin.TheVariants as origin
-use Rattle.sqlite_ast.specs.declared.Select.{Select, out-Select}
+use Rattle.sqlite_ast.specs.declared.Select.{out-Select}
 use Rattle.sqlite_ast.specs.declared.Source.{Source, out-Source}
-use Rattle.sqlite_ast.specs.declared.Core.{Core, out-Core}
-use Rattle.sqlite_ast.specs.declared.Sort.{Sort, out-Sort}
-use Rattle.sqlite_sql.specs.Term.{Term, lit, col}
+use Rattle.sqlite_ast.specs.declared.Core.{out-Core}
+use Rattle.sqlite_ast.specs.declared.Sort.{out-Sort}
+use Rattle.sqlite_sql.specs.Term.{Term, col, lit}
 use Rattle.sqlite_schema.specs.declared.schema.Schema.{Schema}
 use Rattle.sqlite_schema.specs.declared.schema.Table.{Table}
-use Rattle.sqlite_schema.specs.declared.schema.Column as schema
-use Rattle.sqlite_schema.specs.Names.{table_named, column_named, place_of}
+use Rattle.sqlite_schema.specs.Names.{column_named}
 use Rattle.sqlite_resolve.specs.declared.scope.Bound.{Bound}
 use Rattle.sqlite_resolve.specs.declared.scope.Output.{Output}
 use Rattle.sqlite_resolve.specs.declared.scope.Level.{Level}
 use Rattle.sqlite_resolve.specs.declared.scope.Found.TheVariants.{Column}
 use Rattle.sqlite_resolve.specs.declared.state.State.{State}
 use Rattle.sqlite_resolve.specs.declared.state.Carried.{Carried}
-use Rattle.sqlite_resolve.specs.declared.state.Passes.TheVariants as hands
-use Rattle.sqlite_resolve.specs.Lowering.{and_then, Lowering, begin, finish, spend}
-use Rattle.sqlite_resolve.specs.Lowering.{alone, fresh, max_budget, take_slot}
-use Rattle.sqlite_resolve.specs.Scope as scope
-use Rattle.sqlite_resolve.specs.Scope.{Name, Context, find, term_of, column_at, column_in, in_level}
-use Rattle.sqlite_resolve.specs.Scope.{only, hit, is_among, declared}
-use Rattle.sqlite_resolve.specs.Expr.{node, opened, node_at, passes, lower_to, lower}
-use Rattle.sqlite_resolve.specs.Body as body
-use Rattle.sqlite_resolve.specs.Order as order
-use Rattle.sqlite_resolve.specs.Select as select
+use Rattle.sqlite_resolve.specs.Lowering.{Lowering, alone, begin, finish, fresh, spend, take_slot}
+use Rattle.sqlite_resolve.specs.Scope.{Context, Name, column_at, column_in, find, hit, in_level}
+use Rattle.sqlite_resolve.specs.Scope.{is_among, only, term_of}
+use Rattle.sqlite_resolve.specs.Expr.{lower_to, node, node_at, opened, passes}
 use Rattle.sqlite_resolve.specs.Select.{outermost}
 use Rattle.sqlite_resolve.specs.declared.body.Body.{Body}
 use Rattle.sqlite_value.specs.declared.keys.Key.{Key}
 use Rattle.sqlite_draft.specs.declared.join.Step.TheVariants.{Inner}
 use Rattle.sqlite_draft.specs.declared.query.Draft.{Draft}
 use Rattle.sqlite_draft.specs.Join.{chain}
-use Rattle.sqlite_ast.specs.declared.Statement.TheVariants as written
-use Rattle.sqlite_syntax.specs.declared.statement.Parsed.{Parsed}
-use Rattle.sqlite.specs.declared.types.Value.TheVariants.{Int}
-use Rattle.sqlite_resolve.specs.Program as program
-use Rattle.sqlite_resolve.specs.Compile as compile
-use Rattle.sqlite_resolve.specs.Compile.{first, compiled, with_command}
-use Rattle.sqlite_resolve.specs.Define as define
-use Rattle.sqlite_resolve.specs.declared.compiled.Compiled.{Compiled}
 use Rattle.sqlite_schema.specs.declared.command.Command.{Command}
-use Rattle.sqlite_schema.specs.declared.command.Command.TheVariants as command
-use Rattle.sqlite_schema.specs.declared.command.Source as source
-use Rattle.sqlite_typing.specs.Types.{accepts_program}
-use Rattle.sqlite_draft.specs.Query.{query_of}
 use Rattle.sqlite_ast.specs.declared.Statement.{Statement}
-use Rattle.sqlite_ast.specs.declared.Conflict.TheVariants as conflict
-use Rattle.sqlite_ast.specs.declared.Rows.{Rows}
-use Rattle.sqlite.specs.Listing.{understood, reads_listing}
 use Rattle.sqlite_resolve.specs.Program.{query, query_to}
 use Rattle.sqlite_schema.specs.declared.program.Table.{Table as Let}
+use Rattle.sqlite_ast.specs.declared.Origin.TheVariants as origin
+use Rattle.sqlite_schema.specs.declared.schema.Column as schema
+use Rattle.sqlite_resolve.specs.declared.state.Passes.TheVariants as hands
+use Rattle.sqlite_resolve.specs.Scope as scope
+use Rattle.sqlite_resolve.specs.Body as body
+use Rattle.sqlite_resolve.specs.Order as order
+use Rattle.sqlite_resolve.specs.Select as select
+use Rattle.sqlite_ast.specs.declared.Statement.TheVariants as written
+use Rattle.sqlite_resolve.specs.Program as program
+use Rattle.sqlite_resolve.specs.Compile as compile
+use Rattle.sqlite_resolve.specs.Define as define
+use Rattle.sqlite_schema.specs.declared.command.Command.TheVariants as command
+use Rattle.sqlite_schema.specs.declared.command.Source as source
+use Rattle.sqlite_ast.specs.declared.Conflict.TheVariants as conflict
 
 -- the resolver's state with no steps and no aggregates, with this budget left
 abbrev pub quiet : ℕ → ℕ → Carried → State

@@ -1,22 +1,18 @@
 -- What a SELECT shows of its table.
-use Rattle.std.proofs.Common.{◌≡◌, ◌+◌, ◌<◌, ◌^◌, ℕ, nat_le, false, List, [], ◌∷◌, length, map}
-use Rattle.std.proofs.Common.{refl, sym, ap, ◌∙◌, subst, arith, All, is_lt, IsPermutation, IsSorted}
-use Rattle.std.proofs.Common.{flat_map}
-use Rattle.sqlite.specs.declared.types.Value.TheVariants.{Null}
-use Rattle.std.specs.List.{AllByRecursion}
+use Rattle.urb_sqlite.proofs.Common.{All, All-from_recursion, All-permutation, AllByRecursion}
+use Rattle.urb_sqlite.proofs.Common.{HasTable, IsPermutation, IsSorted, List, Null, Row, [], ap}
+use Rattle.urb_sqlite.proofs.Common.{arith, by_pos, column, false, flat_map, is_lt, length, map}
+use Rattle.urb_sqlite.proofs.Common.{nat_le, refl, shown, subst, sym, tree_of, ℕ, ◌+◌, ◌<◌, ◌^◌}
+use Rattle.urb_sqlite.proofs.Common.{◌∙◌, ◌∷◌, ◌≡◌}
 use Rattle.std.proofs.lemmas.List.{get_or-map, length-map}
-use Rattle.std.proofs.lemmas.List.Elements.{All-from_recursion}
-use Rattle.std.proofs.lemmas.List.Sorted.{All-permutation, IsPermutation-map}
+use Rattle.std.proofs.lemmas.List.Sorted.{IsPermutation-map}
 use Rattle.sqlite_keyed.proofs.ListLemmas.{map-map}
-use Rattle.sqlite.specs.Order.{Row, column}
 use Rattle.sqlite.specs.Tree.{Trees}
 use Rattle.sqlite_value.proofs.OrderLemmas.{then-Equal}
 use Rattle.sqlite.specs.Query.{IsAnswer, Output, output, output_cmp}
 use Rattle.sqlite.specs.Program.{overlay}
-use Rattle.sqlite.specs.State.{State, Shown}
+use Rattle.sqlite.specs.State.{Shown, State}
 use Rattle.sqlite.proofs.Callers.{reads_as}
-use Rattle.urb_sqlite.specs.JournalTables.{tree_of, HasTable}
-use Rattle.urb_sqlite.specs.RecordRows.{shown, by_pos}
 use Rattle.urb_sqlite.proofs.StatementTexts.{Selects, query, select_is}
 
 -- what a row is sorted by, and what it shows

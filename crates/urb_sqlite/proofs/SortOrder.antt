@@ -1,16 +1,14 @@
 -- `sort_by` gives the sorted order of a list. If no two elements tie, it is the only one.
-use Rattle.std.proofs.Common.{◌≡◌, zero, suc, ◌+◌, Bool, true, false, cond, List, [], ◌∷◌, refl, ap}
-use Rattle.std.proofs.Common.{◌∙◌, arith, Ordering, Less, Equal, Greater, is_lt, is_gt, true≢false}
-use Rattle.std.proofs.Common.{IsPermutation, IsSorted}
-use Rattle.std.specs.List.{AllByRecursion}
-use Rattle.std.specs.Cmp.{IsTotalOrder}
+use Rattle.urb_sqlite.proofs.Common.{AllByRecursion, Bool, Equal, Greater, IsPermutation}
+use Rattle.urb_sqlite.proofs.Common.{IsPermutation-sort_by, IsPermutation-trans, IsSorted}
+use Rattle.urb_sqlite.proofs.Common.{IsTotalOrder, Less, List, Ordering, [], all_weaker, ap, arith}
+use Rattle.urb_sqlite.proofs.Common.{cond, false, is_gt, is_lt, refl, sort_by, sorted_unique, suc}
+use Rattle.urb_sqlite.proofs.Common.{true, zero, ◌+◌, ◌∙◌, ◌∷◌, ◌≡◌}
+use Rattle.std.proofs.Common.{true≢false}
 use Rattle.std.specs.Ordering.{ordering_reverse}
 use Rattle.std.proofs.lemmas.Cmp.{upto}
-use Rattle.std.proofs.lemmas.List.Sorted.{IsPermutation-trans}
 use Rattle.sqlite_trees.specs.Tree.{IsAscending}
-use Rattle.sqlite_keyed.specs.Lists.{insert_sorted, sort_by}
-use Rattle.sqlite_keyed.proofs.ListLemmas.{all_weaker}
-use Rattle.sqlite_keyed.proofs.SortLemmas.{sorted_unique, IsPermutation-sort_by}
+use Rattle.sqlite_keyed.specs.Lists.{insert_sorted}
 
 module _ {X : Type 0} (cmp : X → X → Ordering) (total : IsTotalOrder cmp) where
   abbrev AtMost : X → X → Type 0

@@ -1,24 +1,21 @@
 -- Reading row by row gives the records of the rows, or the first row that is no record.
-use Rattle.std.proofs.Common.{◌≡◌, ℕ, suc, ◌+◌, ◌<◌, ◌≤◌, ◌^◌, Bool, true, false, cond, nat_lt}
-use Rattle.std.proofs.Common.{nat_le, ◌==◌, ◌&&◌, option_and_then, option_map, ℤ, pos, negsuc, List}
-use Rattle.std.proofs.Common.{[], ◌∷◌, length, map, Option, Some, None, Result, Ok, Err, refl, sym}
-use Rattle.std.proofs.Common.{ap, ap₂, subst, ◌∙◌, arith}
-use Rattle.std.specs.List.{AllByRecursion}
-use Rattle.std.proofs.lemmas.Bool.{eqb-true, eq-eqb, lt-ltb, ltb-true}
-use Rattle.std.proofs.lemmas.List.Elements.{recursion_from_All, All-from_recursion}
-use Rattle.sqlite.specs.declared.types.Value.{Value}
-use Rattle.sqlite.specs.declared.types.Value.TheVariants.{Null, Int, Real, Text, Blob}
-use Rattle.sqlite.specs.Order.{Row, column}
-use Rattle.urb_names.specs.LabelsAndContents.{Label, Content, IsLabel, IsContent}
-use Rattle.urb_stable.specs.Entries.{Entry}
-use Rattle.urb_stable.specs.declared.record.Record.TheVariants.{Pend, PendCert, Cert}
+use Rattle.urb_sqlite.proofs.Common.{All-from_recursion, AllByRecursion, Bool, Cert, Content, Entry}
+use Rattle.urb_sqlite.proofs.Common.{Err, Int, IsFirstBad, IsWithin, Label, List, MAX_NODES}
+use Rattle.urb_sqlite.proofs.Common.{MAX_PAYLOAD, None, Null, Ok, Option, Pend, PendCert, Result}
+use Rattle.urb_sqlite.proofs.Common.{Row, Some, Spells, Text, Value, [], ap, ap₂, arith, column}
+use Rattle.urb_sqlite.proofs.Common.{columns_of, cond, eq-eqb, eqb-true, false, joined, length, map}
+use Rattle.urb_sqlite.proofs.Common.{nat_le, nat_lt, negsuc, option_and_then, option_map, pos}
+use Rattle.urb_sqlite.proofs.Common.{read_from, record_at, recursion_from_All, refl, row_of, subst}
+use Rattle.urb_sqlite.proofs.Common.{suc, sym, true, ℕ, ℤ, ◌&&◌, ◌+◌, ◌<◌, ◌==◌, ◌^◌, ◌∙◌, ◌∷◌, ◌≡◌}
+use Rattle.urb_sqlite.proofs.Common.{◌≤◌}
+use Rattle.std.proofs.lemmas.Bool.{lt-ltb, ltb-true}
+use Rattle.sqlite.specs.declared.types.Value.TheVariants.{Blob, Real}
+use Rattle.urb_names.specs.LabelsAndContents.{IsContent, IsLabel}
 use Rattle.urb_sqlite.specs.declared.rows.Columns.{Columns}
-use Rattle.urb_sqlite.specs.RecordRows.{columns_of, row_of, rows_of, columns_in, IsWithin, Spells}
-use Rattle.urb_sqlite.specs.RecordRows.{IsFirstBad}
-use Rattle.urb_sqlite.specs.RowReadings.{word_in, number_in, bytes_in, numbers_in, is_name, is_message}
-use Rattle.urb_sqlite.specs.RowReadings.{is_bare, name_in, message_in, record_by, record_in, record_at}
-use Rattle.urb_sqlite.specs.RowReadings.{joined, read_from}
-use Rattle.urb_names.specs.declared.limits.TheConstants.{MAX_NODES, MAX_PAYLOAD}
+use Rattle.urb_sqlite.specs.RecordRows.{columns_in, rows_of}
+use Rattle.urb_sqlite.specs.RowReadings.{bytes_in, is_bare, is_message, is_name, message_in}
+use Rattle.urb_sqlite.specs.RowReadings.{name_in, number_in, numbers_in, record_by, record_in}
+use Rattle.urb_sqlite.specs.RowReadings.{word_in}
 
 -- ---- the columns of a row
 

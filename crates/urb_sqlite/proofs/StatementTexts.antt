@@ -1,52 +1,37 @@
 -- What the texts mean under a schema that has the table, computed by the resolver's definition.
-use Rattle.std.proofs.Common.{◌≡◌, ℕ, pos, negsuc, List, [], ◌∷◌, codes, false, true, None, Option}
-use Rattle.std.proofs.Common.{Some, Ok, Err, refl, sym, ap, subst, ◌∙◌, slice_get, option_and_then}
-use Rattle.std.proofs.Common.{nat_le, ◌==◌, ◌^◌}
-use Rattle.std.specs.Prelude.{find}
-use Rattle.sqlite.specs.declared.types.Value.TheVariants.{Null, Int}
-use Rattle.sqlite.specs.Term.{Term, lit, col}
+use Rattle.urb_sqlite.proofs.Common.{Core, Err, First, HasTable, Int, Integer, IsPlain, List}
+use Rattle.urb_sqlite.proofs.Common.{NoSuchTable, None, Null, Ok, Option, Parsed, Part, Returning}
+use Rattle.urb_sqlite.proofs.Common.{Rows, Second, Select, Some, Sort, Values, [], accepts_program}
+use Rattle.urb_sqlite.proofs.Common.{ap, codes, command_of, compiled, create_of, declared}
+use Rattle.urb_sqlite.proofs.Common.{everything, false, first, if_select, insert_text}
+use Rattle.urb_sqlite.proofs.Common.{listing_schema, lower, max_budget, name_of, nat_le, negsuc}
+use Rattle.urb_sqlite.proofs.Common.{new_rows, option_and_then, place_of, pos, query_of}
+use Rattle.urb_sqlite.proofs.Common.{reads_listing, record_table, refl, same_name, second_name}
+use Rattle.urb_sqlite.proofs.Common.{select_of, slice_get, subst, sym, table_defined_by}
+use Rattle.urb_sqlite.proofs.Common.{table_named, text_of, tree_of, true, understood, with_command}
+use Rattle.urb_sqlite.proofs.Common.{ℕ, ◌==◌, ◌^◌, ◌∙◌, ◌∷◌, ◌≡◌}
+use Rattle.std.proofs.Common.{find}
+use Rattle.sqlite.specs.Term.{Term, col, lit}
 use Rattle.sqlite.specs.Collation.TheVariants.{Binary}
-use Rattle.sqlite.specs.Kind.TheVariants.{Integer}
-use Rattle.sqlite.specs.Kind.TheVariants as kind
-use Rattle.sqlite.specs.Source.TheVariants.{Values}
-use Rattle.sqlite.specs.Command.TheVariants as command
-use Rattle.sqlite_tied.specs.Compute.{everything}
 use Rattle.sqlite.specs.Table.{Table}
 use Rattle.sqlite.specs.Schema.{Schema}
-use Rattle.sqlite_ast.specs.declared.Select.{Select}
-use Rattle.sqlite_ast.specs.declared.Core.{Core}
-use Rattle.sqlite_ast.specs.declared.Sort.{Sort}
 use Rattle.sqlite_ast.specs.declared.Shown.{Shown}
-use Rattle.sqlite_ast.specs.declared.Rows.{Rows}
-use Rattle.sqlite_ast.specs.declared.Statement.TheVariants as written
-use Rattle.sqlite_ast.specs.declared.Conflict.TheVariants as conflict
-use Rattle.sqlite_syntax.specs.declared.statement.Parsed.{Parsed}
 use Rattle.sqlite_schema.specs.declared.schema.Column.{Column}
-use Rattle.sqlite_schema.specs.Names.{same_name, table_named, place_of}
-use Rattle.sqlite_resolve.specs.Compile.{first, compiled, new_rows, table_defined_by, with_command}
-use Rattle.sqlite_resolve.specs.declared.error.CompileError.TheVariants.{NoSuchTable}
 use Rattle.sqlite_ast.specs.declared.CreateTable.{CreateTable}
 use Rattle.sqlite.specs.Command.{Command}
-use Rattle.sqlite_schema.specs.declared.command.Returning.{Returning}
-use Rattle.sqlite.specs.State.{text_of}
 use Rattle.sqlite_resolve.specs.declared.scope.Output.{Output}
-use Rattle.urb_sqlite.specs.JournalTables.{second_name, record_table, integer, tree_of, HasTable}
-use Rattle.urb_sqlite.specs.internal.JournalStatements.{create_of, insert_text, select_of, name_of}
-use Rattle.sqlite_resolve.specs.Lowering.{max_budget, nothing}
+use Rattle.urb_sqlite.specs.JournalTables.{integer}
+use Rattle.sqlite_resolve.specs.Lowering.{nothing}
 use Rattle.sqlite_resolve.specs.Body.{outputs}
-use Rattle.sqlite_resolve.specs.Expr.{lower}
-use Rattle.sqlite_resolve.specs.Scope.{declared}
-use Rattle.sqlite_draft.specs.Query.{query_of}
-use Rattle.sqlite_typing.specs.Types.{accepts_program}
-use Rattle.sqlite.specs.Query.{Query, inner, end}
-use Rattle.sqlite.specs.Listing.{understood, reads_listing, if_select, listing_schema}
-use Rattle.sqlite.proofs.Callers.{IsPlain, command_of}
-use Rattle.urb_sqlite.specs.declared.sql.Part.{Part}
-use Rattle.urb_sqlite.specs.declared.sql.Part.TheVariants.{First, Second}
-use Rattle.urb_sqlite.proofs.ResolvedSelects.{IsOfText, IsPlainSelect, IsPlainCore, IsColumn}
-use Rattle.urb_sqlite.proofs.ResolvedSelects.{IsPlainSort, base_of, quiet, bound_to, over, draft_of}
-use Rattle.urb_sqlite.proofs.ResolvedSelects.{no_page, outputs_more, named_is, read_is}
-use Rattle.urb_sqlite.proofs.ResolvedSelects.{inserted_is, understood_is}
+use Rattle.sqlite.specs.Query.{Query, end, inner}
+use Rattle.urb_sqlite.proofs.ResolvedSelects.{IsColumn, IsOfText, IsPlainCore, IsPlainSelect}
+use Rattle.urb_sqlite.proofs.ResolvedSelects.{IsPlainSort, base_of, bound_to, draft_of, inserted_is}
+use Rattle.urb_sqlite.proofs.ResolvedSelects.{named_is, no_page, outputs_more, over, quiet, read_is}
+use Rattle.urb_sqlite.proofs.ResolvedSelects.{understood_is}
+use Rattle.sqlite.specs.Kind.TheVariants as kind
+use Rattle.sqlite.specs.Command.TheVariants as command
+use Rattle.sqlite_ast.specs.declared.Statement.TheVariants as written
+use Rattle.sqlite_ast.specs.declared.Conflict.TheVariants as conflict
 
 -- the terms that the INSERT puts into a row: its seven parameters, and no value for the key's
 -- column

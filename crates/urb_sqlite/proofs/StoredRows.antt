@@ -1,39 +1,31 @@
 -- If a table stands for records and the row of the next record is added, it stands for these
 -- records and that one.
-use Rattle.std.proofs.Common.{◌≡◌, ℕ, suc, ◌+◌, ◌<◌, ◌≤◌, pos, List, [], ◌∷◌, ◌++◌, length}
-use Rattle.std.proofs.Common.{length-append, append_assoc, map, option_map, unwrap_or, Option}
-use Rattle.std.proofs.Common.{subst, add-zero, Some, Ok, refl, sym, ap, ◌∙◌, arith, Less}
+use Rattle.urb_sqlite.proofs.Common.{All-from_recursion, All-permutation, AllByRecursion, Cert}
+use Rattle.urb_sqlite.proofs.Common.{Database, Entry, First, HasBoth, HasTable, Int}
+use Rattle.urb_sqlite.proofs.Common.{IsPermutation-sort_by, IsTotalOrder, IsWithin, Lacks, Less}
+use Rattle.urb_sqlite.proofs.Common.{List, Ok, Option, Pend, PendCert, Row, Second, Some, Spells}
+use Rattle.urb_sqlite.proofs.Common.{StandsFor, [], add-zero, all_weaker, ap, append_assoc, arith}
+use Rattle.urb_sqlite.proofs.Common.{by_pos, column, extended, joined, journal_name, kept_of}
+use Rattle.urb_sqlite.proofs.Common.{length, length-append, limit_of, map, option_map, pos, put_row}
+use Rattle.urb_sqlite.proofs.Common.{read_from, record_at, records_of, recursion_from_All, refl}
+use Rattle.urb_sqlite.proofs.Common.{row_of, rowid, rows_in, second_name, shown, sort_by, subst}
+use Rattle.urb_sqlite.proofs.Common.{suc, sym, table_of, table_rows, tree_of, unwrap_or, ℕ, ◌++◌}
+use Rattle.urb_sqlite.proofs.Common.{◌+◌, ◌<◌, ◌∙◌, ◌∷◌, ◌≡◌, ◌≤◌}
 use Rattle.std.specs.Prelude.{⊤}
-use Rattle.std.specs.List.{AllByRecursion}
-use Rattle.std.specs.Cmp.{IsTotalOrder}
 use Rattle.std.proofs.lemmas.Cmp.{on_total}
 use Rattle.std.proofs.lemmas.Int.{ints}
-use Rattle.std.proofs.lemmas.List.Elements.{recursion_from_All, All-from_recursion}
-use Rattle.std.proofs.lemmas.List.Sorted.{All-permutation, IsPermutation-append_left}
-use Rattle.sqlite.specs.declared.types.Value.TheVariants.{Int}
-use Rattle.sqlite.specs.Order.{Row, column, value_cmp}
-use Rattle.sqlite.specs.Tree.{Trees, rowid, put_row, IsAscending}
-use Rattle.sqlite.specs.Effect.{Database}
+use Rattle.std.proofs.lemmas.List.Sorted.{IsPermutation-append_left}
+use Rattle.sqlite.specs.Order.{value_cmp}
+use Rattle.sqlite.specs.Tree.{IsAscending, Trees}
 use Rattle.sqlite.specs.Schema.{Schema}
 use Rattle.sqlite_value.proofs.OrderLemmas.{value_cmp-Int, value_cmp_total}
 use Rattle.sqlite_keyed.proofs.KeyedLemmas.{Less-from_lt}
-use Rattle.sqlite_keyed.specs.Lists.{sort_by}
-use Rattle.sqlite_keyed.proofs.ListLemmas.{all_weaker, all_unmap, ascending-append}
-use Rattle.sqlite_keyed.proofs.SortLemmas.{IsPermutation-sort_by}
-use Rattle.urb_stable.specs.Entries.{Entry}
-use Rattle.urb_stable.specs.declared.record.Record.TheVariants.{Pend, PendCert, Cert}
+use Rattle.sqlite_keyed.proofs.ListLemmas.{all_unmap, ascending-append}
 use Rattle.sqlite.specs.Table.{Table}
-use Rattle.urb_sqlite.specs.declared.sql.Part.TheVariants.{First, Second}
-use Rattle.urb_sqlite.specs.JournalTables.{journal_name, second_name, limit_of, table_of, tree_of, Lacks}
-use Rattle.urb_sqlite.specs.JournalTables.{HasTable, HasBoth}
-use Rattle.urb_sqlite.specs.RecordRows.{shown, by_pos, rows_in, row_of, IsWithin, Spells, table_rows}
-use Rattle.urb_sqlite.specs.RecordRows.{StandsFor}
-use Rattle.urb_sqlite.specs.internal.TreeRows.{kept_of}
-use Rattle.urb_sqlite.specs.RowReadings.{record_at, joined, extended, read_from, followed, read_both}
-use Rattle.urb_sqlite.specs.RowReadings.{ok_or_none, records_of}
+use Rattle.urb_sqlite.specs.RowReadings.{followed, ok_or_none, read_both}
 use Rattle.urb_sqlite.proofs.SortOrder.{sort_is}
-use Rattle.urb_sqlite.proofs.SpelledRows.{at_place, went_on, is_read_as, spells_if_read}
-use Rattle.urb_sqlite.proofs.SpelledRows.{read_if_spelled}
+use Rattle.urb_sqlite.proofs.SpelledRows.{at_place, is_read_as, read_if_spelled, spells_if_read}
+use Rattle.urb_sqlite.proofs.SpelledRows.{went_on}
 use Rattle.std.proofs.lemmas.List.{map_push}
 
 -- the order of rows by their first column is total

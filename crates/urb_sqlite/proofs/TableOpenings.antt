@@ -1,22 +1,14 @@
 -- Opening one table: the outcomes of its CREATE and its SELECT, one after the other.
-use Rattle.std.proofs.Common.{◌≡◌, ◌⊎◌, inl, inr, ℕ, List, [], false, Ok}
-use Rattle.std.proofs.Common.{refl, sym, ap, subst, ◌∙◌}
-use Rattle.sqlite.specs.Effect.{Database}
-use Rattle.sqlite.specs.Order.{Row}
-use Rattle.sqlite.specs.State.{State, HasCleanDisk, IsUnchanged, IsRolledBack, KeepsCommit}
-use Rattle.urb_stable.specs.Entries.{Entry}
-use Rattle.urb_stable.specs.StableStorage.{is_bad_row}
-use Rattle.urb_stable.specs.declared.stable.StoreFault.{StoreFault}
-use Rattle.urb_stable.specs.declared.stable.StoreFault.TheVariants.{NoMemory, Device, BadRow}
-use Rattle.urb_sqlite.specs.declared.sql.Part.{Part}
-use Rattle.urb_sqlite.specs.JournalTables.{limit_of, tree_of, HasTable}
-use Rattle.urb_sqlite.specs.internal.JournalStatements.{name_of}
-use Rattle.urb_sqlite.specs.OpenJournal.{AddsTable}
-use Rattle.urb_sqlite.specs.internal.JournalChanges.{IsMade, CommitsAtMost}
-use Rattle.urb_sqlite.specs.internal.PartOpening.{IsPrepared, IsPartOpened, IsPartRefused, IsRead}
-use Rattle.urb_sqlite.specs.RowReadings.{read_from}
-use Rattle.urb_sqlite.specs.RecordRows.{table_rows, IsInOrder, IsFirstBad}
-use Rattle.urb_sqlite.specs.TableShapes.{has_table}
+use Rattle.urb_sqlite.proofs.Common.{AddsTable, Database, Device, Entry, HasCleanDisk, HasTable}
+use Rattle.urb_sqlite.proofs.Common.{IsFirstBad, IsInOrder, IsMade, IsPartOpened, IsPartRefused}
+use Rattle.urb_sqlite.proofs.Common.{IsRead, IsRolledBack, IsUnchanged, KeepsCommit, List, NoMemory}
+use Rattle.urb_sqlite.proofs.Common.{Ok, Part, Row, StoreFault, [], ap, false, has_table, inl, inr}
+use Rattle.urb_sqlite.proofs.Common.{is_bad_row, limit_of, name_of, read_from, refl, subst, sym}
+use Rattle.urb_sqlite.proofs.Common.{table_rows, tree_of, ℕ, ◌∙◌, ◌≡◌, ◌⊎◌}
+use Rattle.sqlite.specs.State.{State}
+use Rattle.urb_stable.specs.declared.stable.StoreFault.TheVariants.{BadRow}
+use Rattle.urb_sqlite.specs.internal.JournalChanges.{CommitsAtMost}
+use Rattle.urb_sqlite.specs.internal.PartOpening.{IsPrepared}
 use Rattle.urb_sqlite.proofs.TableReadings.{unchanged_then}
 use Rattle.urb_sqlite.proofs.KeptRecords.{keeps_if_left, keeps_then}
 use Rattle.urb_sqlite.proofs.OpenedTables.{rows_none}

@@ -1,18 +1,13 @@
 -- Reading both tables, one call after the other: the first call changes nothing, and the second
 -- reads on from the place where the first ended.
-use Rattle.std.proofs.Common.{◌≡◌, ◌⊎◌, inl, inr, ℕ, ◌+◌, List, ◌++◌, length, Ok, IsTrue, sym, ap}
-use Rattle.std.proofs.Common.{subst, ◌∙◌}
-use Rattle.sqlite.specs.Effect.{Database}
-use Rattle.sqlite.specs.State.{State, IsLive, HasCleanDisk, IsUnchanged, IsRolledBack, Survives}
-use Rattle.sqlite.proofs.StateLemmas.{survives_then}
-use Rattle.urb_stable.specs.Entries.{Entry}
-use Rattle.urb_sqlite.specs.declared.sql.Part.TheVariants.{First, Second}
-use Rattle.urb_sqlite.specs.JournalTables.{journal_name, second_name, limit_of, HasTable, HasBoth}
-use Rattle.urb_sqlite.specs.RecordRows.{table_rows, StandsFor}
-use Rattle.urb_sqlite.specs.RowReadings.{read_from, records_of}
-use Rattle.urb_sqlite.specs.OpenJournal.{IsHonestJournal, IsSafeAtRest}
-use Rattle.urb_sqlite.specs.internal.JournalChanges.{IsInStep}
-use Rattle.urb_sqlite.proofs.StoredRows.{stands_by, first_read, second_read, records_are}
+use Rattle.urb_sqlite.proofs.Common.{Database, Entry, First, HasBoth, HasCleanDisk, HasTable}
+use Rattle.urb_sqlite.proofs.Common.{IsHonestJournal, IsInStep, IsLive, IsRolledBack, IsSafeAtRest}
+use Rattle.urb_sqlite.proofs.Common.{IsTrue, IsUnchanged, List, Ok, Second, StandsFor, Survives, ap}
+use Rattle.urb_sqlite.proofs.Common.{inl, inr, journal_name, length, limit_of, read_from}
+use Rattle.urb_sqlite.proofs.Common.{records_of, second_name, subst, survives_then, sym, table_rows}
+use Rattle.urb_sqlite.proofs.Common.{ℕ, ◌++◌, ◌+◌, ◌∙◌, ◌≡◌, ◌⊎◌}
+use Rattle.sqlite.specs.State.{State}
+use Rattle.urb_sqlite.proofs.StoredRows.{first_read, records_are, second_read, stands_by}
 use Rattle.urb_sqlite.proofs.KeptRecords.{IsSettled, earlier_clean, left, same_journal, stops_now}
 
 -- ---- two calls, the first of which changes nothing

@@ -1,22 +1,16 @@
 -- Records that one transaction adds to a journal.
-use Rattle.std.proofs.Common.{◌≡◌, ◌⊎◌, inl, inr, ℕ, ◌+◌, ◌<◌, ◌≤◌, false, List, [], ◌∷◌, ◌++◌}
-use Rattle.std.proofs.Common.{length, length-append, append_assoc, Ok, Err, Result, OnOk, IsTrue}
-use Rattle.std.proofs.Common.{slice_index_or, take, length-take-le}
-use Rattle.std.proofs.Common.{refl, sym, ap, subst, ◌∙◌, arith}
+use Rattle.urb_sqlite.proofs.Common.{AreAdded, Database, Entry, Err, FillsTo, HasBoth, HasCleanDisk}
+use Rattle.urb_sqlite.proofs.Common.{IsAppended, IsCounted, IsEntry, IsFilled, IsFilling}
+use Rattle.urb_sqlite.proofs.Common.{IsHonestJournal, IsInStep, IsJournal, IsKept, IsLeft, IsLive}
+use Rattle.urb_sqlite.proofs.Common.{IsTrue, LeavesOnly, List, Ok, OnOk, Result, StandsFor}
+use Rattle.urb_sqlite.proofs.Common.{Survives, [], ap, append_assoc, arith, database_of, false, inl}
+use Rattle.urb_sqlite.proofs.Common.{inr, insert_text, length, length-append, length-take-le}
+use Rattle.urb_sqlite.proofs.Common.{records_of, refl, row_of, slice_index_or, subst, survives_then}
+use Rattle.urb_sqlite.proofs.Common.{sym, take, ℕ, ◌++◌, ◌+◌, ◌<◌, ◌∙◌, ◌∷◌, ◌≡◌, ◌≤◌, ◌⊎◌}
 use Rattle.sqlite.specs.Tree.{Trees}
 use Rattle.sqlite.specs.View.{doubt}
-use Rattle.sqlite.specs.Effect.{Database}
-use Rattle.sqlite.specs.State.{State, IsLive, HasCleanDisk, Survives, Shows, ExecutesInside}
-use Rattle.sqlite.proofs.StateLemmas.{survives_then}
-use Rattle.urb_stable.specs.Entries.{Entry, IsEntry}
-use Rattle.urb_sqlite.specs.JournalTables.{HasBoth}
-use Rattle.urb_sqlite.specs.RecordRows.{row_of, StandsFor}
-use Rattle.urb_sqlite.specs.RowReadings.{records_of}
-use Rattle.urb_sqlite.specs.OpenJournal.{IsJournal, database_of, IsHonestJournal, LeavesOnly}
-use Rattle.urb_sqlite.specs.internal.JournalStatements.{insert_text}
-use Rattle.urb_sqlite.specs.internal.JournalChanges.{IsAppended, IsCounted, IsKept, IsInStep, IsLeft}
-use Rattle.urb_sqlite.specs.internal.TransactionChanges.{HasMore, IsFilling, IsFilled, IsUndone, FillsTo}
-use Rattle.urb_sqlite.specs.internal.TransactionChanges.{AreAdded}
+use Rattle.sqlite.specs.State.{ExecutesInside, Shows, State}
+use Rattle.urb_sqlite.specs.internal.TransactionChanges.{HasMore, IsUndone}
 use Rattle.urb_sqlite.proofs.KeptRecords.{IsSame, IsSettled, adds_record, earlier_clean, journal_of}
 use Rattle.urb_sqlite.proofs.KeptRecords.{kept_same, last_commit, same_first, same_journal}
 use Rattle.urb_sqlite.proofs.KeptRecords.{writes_in_any}

@@ -1,12 +1,8 @@
 -- A list that gains one element, and a list with at most one more.
-use Rattle.std.proofs.Common.{◌≡◌, ℕ, zero, suc, ◌+◌, ◌≤◌, ◌⊎◌, inr, List, [], ◌∷◌, ◌++◌, length}
-use Rattle.std.proofs.Common.{take, Option, None, Some, refl, ap, arith, add-one, slice_index_or, sym}
-use Rattle.std.proofs.Common.{◌<◌, ◌∙◌}
-use Rattle.std.proofs.Math.Seq.{take-suc}
-use Rattle.std.specs.Prelude.{slice_get}
-use Rattle.urb_stable.specs.Entries.{Entry}
-use Rattle.urb_stable.specs.StableStorage.{IsContents}
-use Rattle.urb_stable.specs.MemoryStores.{with_doubt}
+use Rattle.urb_stable.proofs.Common.{Entry, IsContents, List, None, Option, Some, [], add-one, ap}
+use Rattle.urb_stable.proofs.Common.{arith, inr, length, refl, slice_get, slice_index_or, suc, sym}
+use Rattle.urb_stable.proofs.Common.{take, take-suc, with_doubt, zero, ℕ, ◌++◌, ◌+◌, ◌<◌, ◌∙◌, ◌∷◌}
+use Rattle.urb_stable.proofs.Common.{◌≡◌, ◌≤◌, ◌⊎◌}
 
 -- what is read from ys, which is xs followed by r
 pub record Kept {X : Type 0} (xs : List X) (r : X) (n : ℕ) (ys : List X) : Type 0 where

@@ -1,7 +1,6 @@
 -- What storage may turn out to hold, in two cases.
-use Rattle.std.proofs.Common.{List, None, Option, Some, [], inl, inr, refl, ◌++◌, ◌∷◌, ◌≡◌, ◌⊎◌}
-use Rattle.urb_stable.specs.Entries.{Entry}
-use Rattle.urb_stable.specs.StableStorage.{IsContents}
+use Rattle.urb_stable.proofs.Common.{Entry, IsContents, List, None, Option, Some, [], inl, inr}
+use Rattle.urb_stable.proofs.Common.{refl, ◌++◌, ◌∷◌, ◌≡◌, ◌⊎◌}
 
 -- the certain list, or that list followed by a doubtful record
 abbrev pub IsEither : List Entry → Option Entry → List Entry → Type 0

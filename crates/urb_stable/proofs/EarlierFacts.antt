@@ -1,27 +1,19 @@
 -- What the earlier records say about a record, during the pass over an image.
-use Rattle.std.proofs.Common.{Err, List, Ok, OnOk, Result, Some, [], ap, append-nil, arith, cond}
-use Rattle.std.proofs.Common.{eq-eqb, eqb-true, false}
-use Rattle.std.proofs.Common.{length, refl, slice_get, slice_index_or, subst, suc, sym, take, true}
-use Rattle.std.proofs.Common.{ℕ, ⊎_elim, ◌++◌, ◌+◌, ◌<◌, ◌==◌, ◌||◌, ◌∙◌, ◌∷◌, ◌≡◌, ◌≤◌, ◌⊎◌}
-use Rattle.std.proofs.Math.Seq.{take-suc}
-use Rattle.std.proofs.lemmas.Bool.{cases_Bool}
+use Rattle.urb_stable.proofs.Common.{Cert, Content, Entry, Err, HasTold, IsBefore, Label, List, Ok}
+use Rattle.urb_stable.proofs.Common.{OnOk, Pend, PendCert, Result, Some, [], ap, append-nil, arith}
+use Rattle.urb_stable.proofs.Common.{by_name, cases_Bool, cert, cond, eq-eqb, eqb-true, false}
+use Rattle.urb_stable.proofs.Common.{has_name, length, list_any-append, own, own-other, own-push}
+use Rattle.urb_stable.proofs.Common.{pend, refl, same_name, slice_get, slice_index_or, subst, suc}
+use Rattle.urb_stable.proofs.Common.{sym, take, take-suc, true, ℕ, ⊎_elim, ◌++◌, ◌+◌, ◌<◌, ◌==◌}
+use Rattle.urb_stable.proofs.Common.{◌||◌, ◌∙◌, ◌∷◌, ◌≡◌, ◌≤◌, ◌⊎◌}
 use Rattle.std.proofs.lemmas.List.{length-take-le}
-use Rattle.std.proofs.lemmas.List.Folds.{list_any-append}
-use Rattle.std.specs.BTreeSet as set
-use Rattle.urb_names.proofs.FoundPairs.{own-other, own-push}
-use Rattle.urb_names.specs.Names.{has_name, same_name}
-use Rattle.urb_names.specs.LabelsAndContents.{Content, Label}
-use Rattle.urb_names.specs.Pairs.{own}
 use Rattle.urb_stable.proofs.IndexGrowth.{one_longer, order-same, pend-next, read_more, same_some}
 use Rattle.urb_stable.proofs.JoinedRecords.{cert-append}
-use Rattle.urb_stable.specs.internal.EarlierRecords.{AreBefore, HasTold, IsBefore, IsCount, IsSetOf}
-use Rattle.urb_stable.specs.Entries.{Entry}
-use Rattle.urb_stable.specs.internal.Indexes.{by_name}
-use Rattle.urb_stable.specs.Records.{cert, pend}
+use Rattle.urb_stable.specs.internal.EarlierRecords.{AreBefore, IsCount, IsSetOf}
 use Rattle.urb_stable.specs.declared.earlier_records.Before.{Before}
 use Rattle.urb_stable.specs.declared.earlier_records.Counts.{Counts}
 use Rattle.urb_stable.specs.declared.earlier_records.Pass.{Pass}
-use Rattle.urb_stable.specs.declared.record.Record.TheVariants.{Cert, Pend, PendCert}
+use Rattle.std.specs.BTreeSet as set
 
 -- ---- the certified names
 

@@ -1,28 +1,19 @@
 -- The first misfit of images, as a loop over nodes and records finds it.
-use Rattle.std.proofs.Common.{Bool, List, None, Option, Some, [], ap, arith, cond, drop, drop-cons}
-use Rattle.std.proofs.Common.{false, is_some, length, map, not, refl, slice_get, slice_index_or}
-use Rattle.std.proofs.Common.{subst, suc, sym, take, true, zero, ℕ, ⊎_elim, ◌++◌, ◌+◌, ◌-◌, ◌&&◌}
-use Rattle.std.proofs.Common.{◌<◌, ◌==◌, ◌∙◌, ◌∷◌, ◌≡◌, ◌≤◌, ◌⊎◌}
-use Rattle.std.proofs.Math.Seq.{take-suc}
+use Rattle.urb_stable.proofs.Common.{Bool, Cert, Content, Entry, Label, Limits, List, Misfit, None}
+use Rattle.urb_stable.proofs.Common.{Option, Pend, PendCert, Rule, Some, [], ap, arith, broken}
+use Rattle.urb_stable.proofs.Common.{cert, cond, drop, drop-cons, false, filter, find, first_of_all}
+use Rattle.urb_stable.proofs.Common.{flat_map, has_name, image_of, in_range, is_next_own, is_some}
+use Rattle.urb_stable.proofs.Common.{keeps_a, keeps_b, length, map, message_of, misfits_behind}
+use Rattle.urb_stable.proofs.Common.{name_of, not, numbers_from, option_map, option_or, own, pend}
+use Rattle.urb_stable.proofs.Common.{refl, same_client, slice_get, slice_index_or, subst, suc}
+use Rattle.urb_stable.proofs.Common.{suc-eq-add-one, sym, take, take-suc, true, zero, ℕ, ⊎_elim}
+use Rattle.urb_stable.proofs.Common.{◌&&◌, ◌++◌, ◌+◌, ◌-◌, ◌<◌, ◌==◌, ◌∙◌, ◌∷◌, ◌≡◌, ◌≤◌, ◌⊎◌}
 use Rattle.std.proofs.lemmas.List.{drop_all}
-use Rattle.std.specs.Option.{SomeIff, option_or}
-use Rattle.std.specs.Prelude.{filter, find, flat_map, option_map}
-use Rattle.urb_names.specs.Names.{has_name}
-use Rattle.urb_names.specs.LabelsAndContents.{Content, Label, Limits}
-use Rattle.urb_names.specs.Nodes.{numbers_from}
-use Rattle.urb_names.specs.Pairs.{message_of, own}
-use Rattle.urb_names.specs.declared.refusal.Rule.{Rule}
+use Rattle.std.specs.Option.{SomeIff}
 use Rattle.urb_names.specs.declared.refusal.Rule.TheVariants.{A, B, C, D}
-use Rattle.urb_stable.specs.internal.EarlierRecords.{client_count, same_client}
-use Rattle.urb_stable.specs.Entries.{Entry, name_of}
-use Rattle.urb_stable.specs.Fitting.{broken, first_of_all, in_range, is_next_own, keeps, keeps_a}
-use Rattle.urb_stable.specs.Fitting.{keeps_b, misfits_behind}
+use Rattle.urb_stable.specs.internal.EarlierRecords.{client_count}
+use Rattle.urb_stable.specs.Fitting.{keeps}
 use Rattle.urb_stable.specs.internal.BrokenRules.{first_broken}
-use Rattle.urb_stable.specs.Images.{image_of}
-use Rattle.urb_stable.specs.declared.fitting.Misfit.{Misfit}
-use Rattle.urb_stable.specs.Records.{cert, pend}
-use Rattle.urb_stable.specs.declared.record.Record.TheVariants.{Cert, Pend, PendCert}
-use Rattle.std.proofs.Math.Numerals.{suc-eq-add-one}
 
 -- ---- continuing a search
 

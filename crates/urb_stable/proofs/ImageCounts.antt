@@ -1,11 +1,9 @@
 -- Counts over images, as counts over the numbers of their nodes.
-use Rattle.std.proofs.Common.{Bool, List, [], ap, arith, cond, count_by, false, length, map, refl}
-use Rattle.std.proofs.Common.{slice_index_or, suc, sym, true, zero, ℕ, ◌+◌, ◌∙◌, ◌∷◌, ◌≡◌}
+use Rattle.urb_stable.proofs.Common.{Bool, Entry, List, [], ap, arith, cond, count_by, false}
+use Rattle.urb_stable.proofs.Common.{image_of, length, map, nodes, numbers_from, refl}
+use Rattle.urb_stable.proofs.Common.{slice_index_or, suc, sym, true, zero, ℕ, ◌+◌, ◌∙◌, ◌∷◌, ◌≡◌}
 use Rattle.std.proofs.lemmas.List.Recursion.{is_count_by}
 use Rattle.std.proofs.lemmas.List.Sums.{sum_by-cons}
-use Rattle.urb_names.specs.Nodes.{nodes, numbers_from}
-use Rattle.urb_stable.specs.Entries.{Entry}
-use Rattle.urb_stable.specs.Images.{image_of}
 
 count-first : {A : Type 0} (test : A → Bool) (x : A) (xs : List A)
     → count_by test (x ∷ xs) ≡ cond (test x) (1 + count_by test xs) (count_by test xs)

@@ -1,30 +1,20 @@
 -- Adding each record of an image to its index.
-use Rattle.std.proofs.Common.{Bool, List, None, is_some, Option, Some, [], ap, arith, cond, eq-eqb}
-use Rattle.std.proofs.Common.{eqb-true, false, inl, inr, length, refl, slice_get, slice_index_or}
-use Rattle.std.proofs.Common.{subst, suc, sym, take, true, zero, ℕ, ⊎_elim, ◌&&◌, ◌++◌, ◌+◌, ◌<◌}
-use Rattle.std.proofs.Common.{◌==◌, ◌||◌, ◌∙◌, ◌∷◌, ◌≡◌, ◌⊎◌}
-use Rattle.std.proofs.Math.Seq.{take-suc}
-use Rattle.std.proofs.lemmas.Bool.{cases_Bool}
+use Rattle.urb_stable.proofs.Common.{Bool, Cert, Content, Entry, IsIndexOf, IsLast, Label, List}
+use Rattle.urb_stable.proofs.Common.{None, Option, Pend, PendCert, Places, Some, [], ap, arith}
+use Rattle.urb_stable.proofs.Common.{by_name, cases_Bool, cond, eq-eqb, eqb-true, false, has_pair}
+use Rattle.urb_stable.proofs.Common.{inl, inr, is_some, length, list_any-append, message_of}
+use Rattle.urb_stable.proofs.Common.{message_of-another, name_of, no_pair, option_or, pend, refl}
+use Rattle.urb_stable.proofs.Common.{same_message, same_name, same_name-true, slice_get}
+use Rattle.urb_stable.proofs.Common.{slice_index_or, subst, suc, suc-eq-add-one, sym, take}
+use Rattle.urb_stable.proofs.Common.{take-suc, true, zero, ℕ, ⊎_elim, ◌&&◌, ◌++◌, ◌+◌, ◌<◌, ◌==◌}
+use Rattle.urb_stable.proofs.Common.{◌||◌, ◌∙◌, ◌∷◌, ◌≡◌, ◌⊎◌}
 use Rattle.std.proofs.lemmas.Cmp.{ranked}
-use Rattle.std.proofs.lemmas.List.Folds.{list_any-append}
-use Rattle.std.specs.BTreeMap as tree
 use Rattle.std.specs.Map.{lookup}
-use Rattle.std.specs.Option.{option_or}
 use Rattle.std.specs.Ordering.{MatchOrdering, is_eq, nat_cmp, ordering_then}
 use Rattle.std.specs.declared.cmp.Ordering.{Ordering}
 use Rattle.std.specs.declared.cmp.Ordering.TheVariants.{Equal, Greater, Less}
-use Rattle.urb_names.proofs.FoundPairs.{message_of-another, no_pair}
-use Rattle.urb_names.proofs.SameNames.{same_name-true}
-use Rattle.urb_names.specs.Names.{same_message, same_name}
-use Rattle.urb_names.specs.LabelsAndContents.{Content, Label}
-use Rattle.urb_names.specs.Pairs.{has_pair, message_of}
 use Rattle.urb_stable.proofs.JoinedRecords.{pend-append}
-use Rattle.urb_stable.specs.Entries.{Entry, name_of}
-use Rattle.urb_stable.specs.internal.Indexes.{IsIndexOf, IsLast, by_name}
-use Rattle.urb_stable.specs.Records.{pend}
-use Rattle.urb_stable.specs.declared.index.Places.{Places}
-use Rattle.urb_stable.specs.declared.record.Record.TheVariants.{Cert, Pend, PendCert}
-use Rattle.std.proofs.Math.Numerals.{suc-eq-add-one}
+use Rattle.std.specs.BTreeMap as tree
 
 -- ---- the order of names
 

@@ -1,8 +1,6 @@
 -- The pairs and certificates of two lists of records, one after the other.
-use Rattle.std.proofs.Common.{List, [], ap, refl, ◌++◌, ◌∷◌, ◌≡◌}
-use Rattle.urb_stable.specs.Entries.{Entry}
-use Rattle.urb_stable.specs.Records.{cert, pend}
-use Rattle.urb_stable.specs.declared.record.Record.TheVariants.{Cert, Pend, PendCert}
+use Rattle.urb_stable.proofs.Common.{Cert, Entry, List, Pend, PendCert, [], ap, cert, pend, refl}
+use Rattle.urb_stable.proofs.Common.{◌++◌, ◌∷◌, ◌≡◌}
 
 -- the pairs of two lists of records are those of the first, then those of the second
 pub pend-append : (xs ys : List Entry) → pend (xs ++ ys) ≡ pend xs ++ pend ys

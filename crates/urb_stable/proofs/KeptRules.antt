@@ -1,24 +1,20 @@
 -- Records that keep the fitting rules, and what follows for their pairs.
-use Rattle.std.proofs.Common.{Bool, List, None, Option, Some, [], ap, append-nil, append_assoc, ap₂}
-use Rattle.std.proofs.Common.{arith, cond, eqb-true, false, inl, inr, is_none, length, ne_eqb, refl}
-use Rattle.std.proofs.Common.{slice_get, subst, suc, sym, true, ℕ, ⊎_elim, ◌&&◌, ◌++◌, ◌<◌, ◌==◌}
-use Rattle.std.proofs.Common.{◌∙◌, ◌∷◌, ◌≡◌, ◌⊎◌}
-use Rattle.std.proofs.lemmas.Bool.{and_left, and_parts, and_right, cases_Bool, cases_order}
-use Rattle.std.proofs.lemmas.Bool.{cond-false, cond-true, false≢true}
-use Rattle.urb_names.proofs.FoundPairs.{Unique, has_name-last, has_pair-last, message_of-another}
-use Rattle.urb_names.proofs.FoundPairs.{message_of-behind, message_of-more, message_of-new}
-use Rattle.urb_names.proofs.FoundPairs.{message_of-other, none_found, own-other, own-push}
+use Rattle.urb_stable.proofs.Common.{Bool, Cert, Content, Entry, Kept, Label, Limits, List, None}
+use Rattle.urb_stable.proofs.Common.{Option, Pend, PendCert, Some, Unique, [], and_parts, ap}
+use Rattle.urb_stable.proofs.Common.{append-nil, append_assoc, ap₂, arith, cases_Bool, cert, cond}
+use Rattle.urb_stable.proofs.Common.{eqb-true, false, false≢true, has_name, has_pair, has_pair-last}
+use Rattle.urb_stable.proofs.Common.{held_by_majority, in_range, inl, inr, is_next_own, is_none}
+use Rattle.urb_stable.proofs.Common.{known_held, length, message_of, message_of-another, name}
+use Rattle.urb_stable.proofs.Common.{ne_eqb, own, own-other, own-push, pend, refl, slice_get, subst}
+use Rattle.urb_stable.proofs.Common.{suc, sym, true, ℕ, ⊎_elim, ◌&&◌, ◌++◌, ◌<◌, ◌==◌, ◌∙◌, ◌∷◌}
+use Rattle.urb_stable.proofs.Common.{◌≡◌, ◌⊎◌}
+use Rattle.std.proofs.lemmas.Bool.{and_left, and_right, cases_order, cond-false, cond-true}
+use Rattle.urb_names.proofs.FoundPairs.{has_name-last, message_of-behind, message_of-more}
+use Rattle.urb_names.proofs.FoundPairs.{message_of-new, message_of-other, none_found}
 use Rattle.urb_names.proofs.Places.{get_front, get_last, get_none, get_past, get_some}
 use Rattle.urb_names.proofs.SameNames.{majority_grows}
-use Rattle.urb_names.specs.Names.{has_name, name}
-use Rattle.urb_names.specs.LabelsAndContents.{Content, Label, Limits}
-use Rattle.urb_names.specs.Pairs.{has_pair, message_of, own}
 use Rattle.urb_stable.proofs.JoinedRecords.{cert-append, pend-append}
-use Rattle.urb_stable.specs.Entries.{Entry}
-use Rattle.urb_stable.specs.Fitting.{Kept, Rules, held_by_majority, in_range, is_next_own}
-use Rattle.urb_stable.specs.Fitting.{known_held}
-use Rattle.urb_stable.specs.Records.{cert, pend}
-use Rattle.urb_stable.specs.declared.record.Record.TheVariants.{Cert, Pend, PendCert}
+use Rattle.urb_stable.specs.Fitting.{Rules}
 
 -- each image keeps the pairs that it had
 abbrev pub Grows : (ℕ → List Entry) → (ℕ → List Entry) → Type 0

@@ -9,6 +9,7 @@
 -- JoinedRecords, KeptRules, OwnRules, RisingRecords, and the file of `delivers`. Then read the
 -- search: FirstMisfits, the file of `count-images`, and the last four of the list below, on the
 -- index. Contents and the file of `whole` are about what one store holds.
+mod Common
 pub mod AppendedElements
 pub mod ClaimedRecords
 pub mod Contents

@@ -1,20 +1,18 @@
 -- The log of a list of records, by its certificates and after one more record.
-use Rattle.std.proofs.Common.{List, [], ap, append-nil, ap₂, arith, false, length, refl, reverse}
-use Rattle.std.proofs.Common.{subst, suc, sym, true, ℕ, ⊎_elim, ◌++◌, ◌+◌, ◌-◌, ◌<◌, ◌||◌, ◌∙◌, ◌∷◌}
-use Rattle.std.proofs.Common.{◌≡◌, ◌≤◌}
-use Rattle.std.proofs.lemmas.Bool.{cases_lt, false_from_ne_true, false≢true, or_right}
+use Rattle.urb_stable.proofs.Common.{Cert, Content, Entry, Label, List, Pend, PendCert, [], ap}
+use Rattle.urb_stable.proofs.Common.{append-nil, ap₂, arith, cert, false, false≢true, has_name}
+use Rattle.urb_stable.proofs.Common.{length, name, or_right, refl, reverse, same_name, subst, suc}
+use Rattle.urb_stable.proofs.Common.{sym, true, ℕ, ⊎_elim, ◌++◌, ◌+◌, ◌-◌, ◌<◌, ◌||◌, ◌∙◌, ◌∷◌, ◌≡◌}
+use Rattle.urb_stable.proofs.Common.{◌≤◌}
+use Rattle.std.proofs.lemmas.Bool.{cases_lt, false_from_ne_true}
 use Rattle.std.proofs.lemmas.List.{reverse-append}
 use Rattle.urb_names.proofs.CertificateReaches.{any-reverse, reach-certified, reach-is, reach-same}
-use Rattle.urb_names.proofs.CertificateReaches.{released-exactly, released-more, reversed-back, reversed-same}
+use Rattle.urb_names.proofs.CertificateReaches.{released-exactly, released-more, reversed-back}
+use Rattle.urb_names.proofs.CertificateReaches.{reversed-same}
 use Rattle.urb_names.proofs.LogRows.{length-row, log_certified, part-released, reach, row}
-use Rattle.urb_names.specs.Names.{has_name, name, same_name}
-use Rattle.urb_names.specs.LabelsAndContents.{Content, Label}
 use Rattle.urb_names.specs.Release.{part_of, released}
 use Rattle.urb_stable.proofs.JoinedRecords.{cert-append}
-use Rattle.urb_stable.specs.Entries.{Entry}
 use Rattle.urb_stable.specs.DeliveredLogs.{DeliversExactly, log}
-use Rattle.urb_stable.specs.Records.{cert}
-use Rattle.urb_stable.specs.declared.record.Record.TheVariants.{Cert, Pend, PendCert}
 use Rattle.urb_names.proofs.TruthValues.{both_ways}
 
 -- each name of a log is certified by its records

@@ -1,26 +1,22 @@
 -- Records that keep the rules about their own image, and one more record.
-use Rattle.std.proofs.Common.{Bool, List, [], ap, append-nil, append_assoc, arith, cond, count_by}
-use Rattle.std.proofs.Common.{eqb-true, false, filter, inl, inr, is_none, is_some, length, lt-ltb}
-use Rattle.std.proofs.Common.{ltb-true, nat_lt, not, refl, subst, suc, sym, true, zero, ℕ, ⊎_elim}
-use Rattle.std.proofs.Common.{◌&&◌, ◌*◌, ◌++◌, ◌<◌, ◌==◌, ◌||◌, ◌∙◌, ◌∷◌, ◌≡◌, ◌⊎◌}
-use Rattle.std.proofs.lemmas.Bool.{and_from, and_parts, cases_Bool, false≢true, or_left}
-use Rattle.std.proofs.lemmas.List.Folds.{list_any-append}
-use Rattle.std.proofs.lemmas.List.Sums.{length-filter}
+use Rattle.urb_stable.proofs.Common.{Bool, Cert, Content, Entry, KeepsOwn, Kept, Label, Limits}
+use Rattle.urb_stable.proofs.Common.{List, Pend, PendCert, Unique, [], and_from, and_parts, ap}
+use Rattle.urb_stable.proofs.Common.{append-nil, append_assoc, arith, cases_Bool, cert, cond}
+use Rattle.urb_stable.proofs.Common.{count_by, eqb-true, false, false≢true, filter, has_name}
+use Rattle.urb_stable.proofs.Common.{has_pair, has_pair-last, held_by_majority, in_range, inl, inr}
+use Rattle.urb_stable.proofs.Common.{is_none, is_some, keeps_a, keeps_b, known_held, length}
+use Rattle.urb_stable.proofs.Common.{length-filter, list_any-append, lt-ltb, ltb-true, message_of}
+use Rattle.urb_stable.proofs.Common.{nat_lt, nodes, not, numbers_from, own, own-other, own-push}
+use Rattle.urb_stable.proofs.Common.{pend, refl, same_message, same_name, subst, suc, sym, true}
+use Rattle.urb_stable.proofs.Common.{zero, ℕ, ⊎_elim, ◌&&◌, ◌*◌, ◌++◌, ◌<◌, ◌==◌, ◌||◌, ◌∙◌, ◌∷◌}
+use Rattle.urb_stable.proofs.Common.{◌≡◌, ◌⊎◌}
+use Rattle.std.proofs.lemmas.Bool.{or_left}
 use Rattle.urb_names.proofs.ClientNumbers.{Numbers, numbers-push}
-use Rattle.urb_names.proofs.FoundPairs.{Unique, has_pair-found, has_pair-last, has_pair-left}
-use Rattle.urb_names.proofs.FoundPairs.{has_pair-right, own-other, own-push, some_found}
+use Rattle.urb_names.proofs.FoundPairs.{has_pair-found, has_pair-left, has_pair-right, some_found}
 use Rattle.urb_names.proofs.SameNames.{any_right, same_message-same, same_name-same}
-use Rattle.urb_names.specs.Names.{has_name, same_message, same_name}
-use Rattle.urb_names.specs.LabelsAndContents.{Content, Label, Limits}
-use Rattle.urb_names.specs.Nodes.{majority_passes, nodes, numbers_from}
-use Rattle.urb_names.specs.Pairs.{has_pair, message_of, own}
+use Rattle.urb_names.specs.Nodes.{majority_passes}
 use Rattle.urb_stable.proofs.JoinedRecords.{cert-append, pend-append}
 use Rattle.urb_stable.proofs.KeptRules.{Numbered, PairRules, kept-numbered, kept-unique, pairs-all}
-use Rattle.urb_stable.specs.Entries.{Entry}
-use Rattle.urb_stable.specs.Fitting.{KeepsOwn, Kept, held_by_majority, in_range, keeps_a, keeps_b}
-use Rattle.urb_stable.specs.Fitting.{known_held}
-use Rattle.urb_stable.specs.Records.{cert, pend}
-use Rattle.urb_stable.specs.declared.record.Record.TheVariants.{Cert, Pend, PendCert}
 
 -- in records that keep the rules, each client numbers the node's own messages 1, 2, 3, ..
 pub kept-numbers : (size : Limits) (images : ℕ → List Entry) (p : ℕ) (rs : List Entry)

@@ -1,11 +1,10 @@
 -- The images of a group's nodes, as they are indexed one after the other.
-use Rattle.std.proofs.Common.{List, Some, [], ap, arith, length, map, slice_get, slice_index_or}
-use Rattle.std.proofs.Common.{suc, sym, take, ℕ, ⊎_elim, ◌++◌, ◌+◌, ◌<◌, ◌∙◌, ◌∷◌, ◌≡◌, ◌≤◌}
-use Rattle.std.proofs.Math.Seq.{take-suc}
-use Rattle.std.proofs.lemmas.List.{map-append, take_all}
+use Rattle.urb_stable.proofs.Common.{Entry, List, NodeImage, Some, [], ap, arith, length, map}
+use Rattle.urb_stable.proofs.Common.{slice_get, slice_index_or, suc, sym, take, take-suc, take_all}
+use Rattle.urb_stable.proofs.Common.{ℕ, ⊎_elim, ◌++◌, ◌+◌, ◌<◌, ◌∙◌, ◌∷◌, ◌≡◌, ◌≤◌}
+use Rattle.std.proofs.lemmas.List.{map-append}
 use Rattle.urb_stable.proofs.IndexGrowth.{one_longer, read_more}
-use Rattle.urb_stable.specs.Entries.{Entry}
-use Rattle.urb_stable.specs.internal.NumberedImages.{AreNumbered, NodeImage}
+use Rattle.urb_stable.specs.internal.NumberedImages.{AreNumbered}
 
 -- the first n images are read
 pub record AreRead {X : Type 0} (items : X → List Entry) (images : List X) (n : ℕ)

@@ -1,18 +1,11 @@
 -- Visiting the records with one name, from the last one to the first.
-use Rattle.std.proofs.Common.{Bool, List, None, Option, Some, [], ap, arith, false, is_some, length}
-use Rattle.std.proofs.Common.{refl, slice_get, subst, suc, sym, take, true, ℕ, ◌<◌, ◌||◌, ◌∙◌, ◌∷◌}
-use Rattle.std.proofs.Common.{◌≡◌, ◌≤◌}
-use Rattle.std.proofs.lemmas.List.{take_all}
-use Rattle.std.specs.BTreeMap as tree
-use Rattle.std.specs.Option.{option_or}
-use Rattle.std.specs.Prelude.{option_map}
-use Rattle.urb_names.specs.LabelsAndContents.{Content, Label}
-use Rattle.urb_names.specs.Pairs.{has_pair, message_of}
+use Rattle.urb_stable.proofs.Common.{Bool, Content, Entry, IsIndexOf, IsLast, Label, List, None}
+use Rattle.urb_stable.proofs.Common.{Option, Places, Some, [], ap, arith, by_name, false, has_pair}
+use Rattle.urb_stable.proofs.Common.{is_some, length, message_of, name_of, option_map, option_or}
+use Rattle.urb_stable.proofs.Common.{pend, refl, slice_get, subst, suc, sym, take, take_all, true}
+use Rattle.urb_stable.proofs.Common.{ℕ, ◌<◌, ◌||◌, ◌∙◌, ◌∷◌, ◌≡◌, ◌≤◌}
 use Rattle.urb_stable.proofs.IndexGrowth.{none-has, same_some}
-use Rattle.urb_stable.specs.Entries.{Entry, name_of}
-use Rattle.urb_stable.specs.internal.Indexes.{IsIndexOf, IsLast, by_name}
-use Rattle.urb_stable.specs.Records.{pend}
-use Rattle.urb_stable.specs.declared.index.Places.{Places}
+use Rattle.std.specs.BTreeMap as tree
 
 -- the greatest number of records still to visit
 abbrev pub left : Option ℕ → ℕ

@@ -1,24 +1,19 @@
 -- The pairs of records that keep rules A and B, in rising order of their names.
-use Rattle.std.proofs.Common.{Bool, List, None, [], ap, arith, eqb-true, false, inl, inr, length}
-use Rattle.std.proofs.Common.{length-append, lt-ltb, refl, subst, suc, sym, true, ℕ, ⊎_elim, ◌&&◌}
-use Rattle.std.proofs.Common.{◌++◌, ◌==◌, ◌||◌, ◌∙◌, ◌∷◌, ◌≡◌, ◌≤◌, ◌⊎◌}
-use Rattle.std.proofs.lemmas.Bool.{and_from, and_parts, cases_Bool, false≢true, or_right}
-use Rattle.std.proofs.lemmas.List.Folds.{list_any-append}
-use Rattle.urb_names.proofs.FoundPairs.{has_pair-last, no_pair, own-other, own-push}
+use Rattle.urb_stable.proofs.Common.{Bool, Content, Entry, KeepsOwn, Kept, Label, Limits, List}
+use Rattle.urb_stable.proofs.Common.{None, [], and_from, and_parts, ap, arith, cases_Bool, eqb-true}
+use Rattle.urb_stable.proofs.Common.{false, false≢true, has_pair, has_pair-last, inl, inr, length}
+use Rattle.urb_stable.proofs.Common.{length-append, list_any-append, lt-ltb, message_of, no_pair}
+use Rattle.urb_stable.proofs.Common.{or_right, own, own-other, own-push, pend, refl, same_message}
+use Rattle.urb_stable.proofs.Common.{same_name, same_name-true, subst, suc, sym, true, ℕ, ⊎_elim}
+use Rattle.urb_stable.proofs.Common.{◌&&◌, ◌++◌, ◌==◌, ◌||◌, ◌∙◌, ◌∷◌, ◌≡◌, ◌≤◌, ◌⊎◌}
 use Rattle.urb_names.proofs.OrderedPairs.{Rises, has_pair-inserted, own-inserted_last}
 use Rattle.urb_names.proofs.OrderedPairs.{own-inserted_other, rises-inserted, rises-same}
 use Rattle.urb_names.proofs.OrderedPairs.{rising-rises}
 use Rattle.urb_names.proofs.RisingPairs.{rising-push}
-use Rattle.urb_names.proofs.SameNames.{same_name-true}
 use Rattle.urb_names.specs.CyclicOrder.{are_rising, inserted, rising}
-use Rattle.urb_names.specs.Names.{name_lt, same_message, same_name}
-use Rattle.urb_names.specs.LabelsAndContents.{Content, Label, Limits}
-use Rattle.urb_names.specs.Pairs.{has_pair, message_of, own}
+use Rattle.urb_names.specs.Names.{name_lt}
 use Rattle.urb_stable.proofs.KeptRules.{PairRules, pairs-all}
 use Rattle.urb_stable.proofs.OwnRules.{own-kept}
-use Rattle.urb_stable.specs.Entries.{Entry}
-use Rattle.urb_stable.specs.Fitting.{KeepsOwn, Kept}
-use Rattle.urb_stable.specs.Records.{pend}
 
 -- What sorting preserves: the pairs rise, they are the same pairs, and the node's own messages keep
 -- their order.

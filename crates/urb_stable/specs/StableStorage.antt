@@ -113,11 +113,3 @@ pub record IsAllowedFault (was_honest was_shut is_clean is_honest : Type 0)
 abbrev pub StaysShut : Type 0 → Type 0 → Type 0 → Result (List Entry) StoreFault → Type 0
 StaysShut was_shut is_clean is_shut result =
     was_shut → is_clean → OnOk result ⊥ × OnErr result is_shut
-
--- A stop leaves no more afterwards than it left before: if it left only what a storage with these
--- records may hold, it still does. The parameters say which properties of the records a stop
--- ensures.
-abbrev pub LeavesNoMore : ((List Entry → Type 0) → Type 0) → ((List Entry → Type 0) → Type 0)
-    → Type 0
-LeavesNoMore before after = (certain : List Entry) (doubtful : Option Entry)
-    → before (IsContents certain doubtful) → after (IsContents certain doubtful)

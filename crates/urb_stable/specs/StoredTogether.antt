@@ -37,3 +37,13 @@ pub record MovesPlace (old new count : ℕ) (result : Result (Unit {0}) StoreFau
 abbrev pub IsContentsOrAll : List Entry → List Entry → Option Entry → List Entry → Type 0
 IsContentsOrAll entries certain doubt records =
     IsContents certain doubt records ⊎ (records ≡ certain ++ entries)
+
+-- A stop leaves no more afterwards than it left before. The parameters say which properties of the
+-- records a stop ensures. If it left only what a storage with these records may hold, it still
+-- does. So it does if it also left these records followed by all that were stored together.
+pub record LeavesNoMore (before after : (List Entry → Type 0) → Type 0) : Type 0 where
+  pub contents : (certain : List Entry) (doubtful : Option Entry)
+      → before (IsContents certain doubtful) → after (IsContents certain doubtful)
+  pub together : (entries certain : List Entry) (doubtful : Option Entry)
+      → before (IsContentsOrAll entries certain doubtful)
+      → after (IsContentsOrAll entries certain doubtful)

@@ -6,9 +6,9 @@ ghost use Rattle.urb_stable.specs.declared.stable.StoreFault.{StoreFault as Faul
 ghost use Rattle.urb_stable.specs.StableStorage.{refusal_of, is_out_of_place, IsContents, IsContentsOr};
 ghost use Rattle.urb_stable.specs.StableStorage.{IsPlaced, IsAppended, LeavesDoubt, CountsFailures};
 ghost use Rattle.urb_stable.specs.StableStorage.{KeepsTrust, list_in, IsRetrieved, SettlesDoubt};
-ghost use Rattle.urb_stable.specs.StableStorage.{IsAllowedFault, StaysShut, LeavesNoMore};
+ghost use Rattle.urb_stable.specs.StableStorage.{IsAllowedFault, StaysShut};
 ghost use Rattle.urb_stable.specs.StoredTogether.{is_misplaced, AreAppended, LeavesNoRecord};
-ghost use Rattle.urb_stable.specs.StoredTogether.{MovesPlace, IsContentsOrAll};
+ghost use Rattle.urb_stable.specs.StoredTogether.{MovesPlace, IsContentsOrAll, LeavesNoMore};
 
 use crate::Record;
 use std::alloc::{AllocError, AllocFailed, Allocator};

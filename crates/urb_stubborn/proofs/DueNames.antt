@@ -1,12 +1,8 @@
 -- Which names are due: visiting one node after another, and after more was heard.
-use Rattle.std.proofs.Common.{◌≡◌, ℕ, suc, ◌+◌, ◌-◌, ◌<◌, ◌≤◌, Bool, true, false, cond, not, ◌==◌}
-use Rattle.std.proofs.Common.{◌&&◌, ◌||◌, List, [], ◌∷◌, filter, refl, ap, ◌∙◌, arith}
+use Rattle.urb_stubborn.proofs.Common.{Bool, Label, List, [], acked, ap, arith, cond, false, filter}
+use Rattle.urb_stubborn.proofs.Common.{is_due, not, numbers_from, or_parts, others, refl, suc, true}
+use Rattle.urb_stubborn.proofs.Common.{ℕ, ◌&&◌, ◌+◌, ◌-◌, ◌<◌, ◌==◌, ◌||◌, ◌∙◌, ◌∷◌, ◌≡◌, ◌≤◌}
 use Rattle.std.specs.List.{list_any}
-use Rattle.std.proofs.lemmas.Bool.{or_parts}
-use Rattle.urb_names.specs.LabelsAndContents.{Label}
-use Rattle.urb_names.specs.Nodes.{numbers_from}
-use Rattle.urb_names.specs.Acknowledgements.{acked}
-use Rattle.urb_names.specs.CarriedPackets.{is_due, others}
 
 -- whether some other node from k to n was not heard
 abbrev pub due_from : ℕ → ℕ → List (Label × ℕ) → Label → ℕ → Bool

@@ -7,6 +7,7 @@
 -- `urb_pending`. Read the files in the order of the list below. The first two are about packets and
 -- due names. The next three are about the names that a tick visits, and the last two about a whole
 -- tick.
+mod Common
 pub mod SentPackets
 pub mod DueNames
 pub mod PairsAfterCursor

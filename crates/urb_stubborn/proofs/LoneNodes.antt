@@ -1,10 +1,8 @@
 -- A node alone in its group: nothing is ever due.
-use Rattle.std.proofs.Common.{◌≡◌, ℕ, List, [], ◌∷◌, filter, refl, sym, ap, ◌∙◌, flat_map}
-use Rattle.urb_names.specs.LabelsAndContents.{Label, Content}
-use Rattle.urb_names.specs.CarriedPackets.{is_due}
-use Rattle.urb_names.specs.CyclicOrder.{last_name, resent}
-use Rattle.urb_stubborn.specs.Resends.{Resending, tick_packets, ticked}
-use Rattle.urb_stubborn.specs.internal.TickWalks.{due_pairs}
+use Rattle.urb_stubborn.proofs.Common.{Content, Label, List, Resending, [], ap, due_pairs, filter}
+use Rattle.urb_stubborn.proofs.Common.{flat_map, is_due, last_name, refl, resent, sym, tick_packets}
+use Rattle.urb_stubborn.proofs.Common.{ℕ, ◌∙◌, ◌∷◌, ◌≡◌}
+use Rattle.urb_stubborn.specs.Resends.{ticked}
 use Rattle.urb_stubborn.proofs.TickProgress.{sends}
 
 none_due : (r : Resending) (pairs : List (Label × Content)) → r.limits.n ≡ 1 → r.node ≡ 1

@@ -1,17 +1,12 @@
 -- Sorted pairs between a cursor and a last name: the first one, and what comes after it.
-use Rattle.std.proofs.Common.{◌≡◌, Bool, true, false, cond, not, [], ◌∷◌, filter, Option}
-use Rattle.std.proofs.Common.{None, Some, refl, sym, ap, ◌∙◌, subst}
-use Rattle.std.specs.List.{AllByRecursion, list_all}
-use Rattle.std.proofs.lemmas.Bool.{and_from, and_parts, cond-false, cond-true, cond_both}
-use Rattle.std.proofs.lemmas.Bool.{false≢true, false_from_ne_true}
-use Rattle.urb_names.specs.LabelsAndContents.{Label, Content}
-use Rattle.urb_names.specs.Names.{name_lt, same_name}
-use Rattle.urb_names.specs.Pairs.{message_of}
-use Rattle.urb_names.specs.CyclicOrder.{are_rising, is_after}
-use Rattle.urb_names.proofs.RisingPairs.{name_lt-strict, name_lt-trans}
+use Rattle.urb_stubborn.proofs.Common.{Bool, Content, Label, None, Option, Some, [], and_from}
+use Rattle.urb_stubborn.proofs.Common.{and_parts, ap, are_rising, behind, between, cond, cond-false}
+use Rattle.urb_stubborn.proofs.Common.{cond-true, cond_both, false, false_from_ne_true, false≢true}
+use Rattle.urb_stubborn.proofs.Common.{filter, first_name, is_after, is_within, list_all}
+use Rattle.urb_stubborn.proofs.Common.{message_of, name_lt, name_lt-strict, name_lt-trans, not}
+use Rattle.urb_stubborn.proofs.Common.{refl, same_name, subst, sym, true, ◌∙◌, ◌∷◌, ◌≡◌}
+use Rattle.std.specs.List.{AllByRecursion}
 use Rattle.urb_names.proofs.SameNames.{same_name-same, same_name-true}
-use Rattle.urb_pending.specs.PendingSet.{first_name}
-use Rattle.urb_stubborn.specs.internal.TickWalks.{behind, between, is_within}
 use Rattle.urb_stubborn.proofs.PairsAfterCursor.{Pairs, after_behind, first_after}
 
 -- ---- pairs that pass a test

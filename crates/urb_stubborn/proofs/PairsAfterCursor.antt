@@ -1,19 +1,14 @@
 -- Sorted names after a cursor: the first due name, and what comes after it.
-use Rattle.std.proofs.Common.{◌≡◌, ◌<◌, ◌≤◌, Bool, true, false, cond, not, ◌&&◌, ◌==◌, nat_lt, List}
-use Rattle.std.proofs.Common.{[], ◌∷◌, length, Option, None, Some, refl, sym, ap, ◌∙◌, subst, inl}
-use Rattle.std.proofs.Common.{inr, ◌⊎◌, arith, eq-eqb, ltb-true, lt-ltb}
-use Rattle.std.specs.List.{list_all}
-use Rattle.std.proofs.lemmas.Bool.{and_from, and_parts, cases_lt, cond-false, cond-true}
-use Rattle.std.proofs.lemmas.Bool.{eqb-true, false≢true, false_from_ne_true, or_left, or_parts}
-use Rattle.std.proofs.lemmas.Bool.{or_right, or_cases}
-use Rattle.urb_names.specs.LabelsAndContents.{Label, Content}
-use Rattle.urb_names.specs.Names.{name_lt}
-use Rattle.urb_names.specs.CarriedPackets.{is_due}
-use Rattle.urb_names.specs.CyclicOrder.{are_rising, is_after}
-use Rattle.urb_names.proofs.RisingPairs.{name_lt-other_way, name_lt-strict, name_lt-trans}
-use Rattle.urb_pending.specs.PendingSet.{first_name}
-use Rattle.urb_stubborn.specs.Resends.{Resending}
-use Rattle.urb_stubborn.specs.internal.TickWalks.{IsPassed, behind, due_pairs}
+use Rattle.urb_stubborn.proofs.Common.{Bool, Content, IsPassed, Label, List, None, Option}
+use Rattle.urb_stubborn.proofs.Common.{Resending, Some, [], and_from, and_parts, ap, are_rising}
+use Rattle.urb_stubborn.proofs.Common.{arith, behind, cases_lt, cond, cond-false, cond-true}
+use Rattle.urb_stubborn.proofs.Common.{due_pairs, eq-eqb, false, false_from_ne_true, false≢true}
+use Rattle.urb_stubborn.proofs.Common.{first_name, inl, inr, is_after, is_due, length, list_all}
+use Rattle.urb_stubborn.proofs.Common.{lt-ltb, ltb-true, name_lt, name_lt-strict, name_lt-trans}
+use Rattle.urb_stubborn.proofs.Common.{nat_lt, not, or_left, or_parts, or_right, refl, subst, sym}
+use Rattle.urb_stubborn.proofs.Common.{true, ◌&&◌, ◌<◌, ◌==◌, ◌∙◌, ◌∷◌, ◌≡◌, ◌≤◌, ◌⊎◌}
+use Rattle.std.proofs.lemmas.Bool.{eqb-true, or_cases}
+use Rattle.urb_names.proofs.RisingPairs.{name_lt-other_way}
 
 abbrev pub Pairs : Type 0
 Pairs = List (Label × Content)

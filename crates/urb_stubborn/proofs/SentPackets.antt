@@ -1,18 +1,15 @@
 -- Packets to some of the nodes, one node after another.
-use Rattle.std.proofs.Common.{◌≡◌, ◌≢◌, ℕ, zero, suc, ◌+◌, ◌-◌, ◌*◌, ◌<◌, ◌≤◌, Bool, true, false}
-use Rattle.std.proofs.Common.{cond, not, ◌==◌, ◌&&◌, List, [], ◌∷◌, ◌++◌, map, filter, length, Some}
-use Rattle.std.proofs.Common.{refl, sym, ap, ◌∙◌, arith, append-nil, append_assoc, eq-eqb, ⊎_elim}
-use Rattle.std.proofs.Common.{flat_map}
-use Rattle.std.proofs.lemmas.Bool.{cases_Bool, cond_both, false≢true}
-use Rattle.std.proofs.lemmas.List.{map-append, length-map, length-append}
+use Rattle.urb_stubborn.proofs.Common.{Bool, Carried, Content, Flags, Label, List, MAX_NODES}
+use Rattle.urb_stubborn.proofs.Common.{MAX_SENDERS, Some, [], acked, ap, append-nil, append_assoc}
+use Rattle.urb_stubborn.proofs.Common.{arith, cond, cond_both, eq-eqb, false, false≢true, filter}
+use Rattle.urb_stubborn.proofs.Common.{flat_map, has_name, length, map, not, numbers_from, others}
+use Rattle.urb_stubborn.proofs.Common.{packets_to, refl, suc, sym, to_unheard, true, zero, ℕ}
+use Rattle.urb_stubborn.proofs.Common.{⊎_elim, ◌&&◌, ◌*◌, ◌++◌, ◌+◌, ◌-◌, ◌<◌, ◌==◌, ◌∙◌, ◌∷◌, ◌≡◌}
+use Rattle.urb_stubborn.proofs.Common.{◌≢◌, ◌≤◌}
+use Rattle.std.proofs.lemmas.Bool.{cases_Bool}
+use Rattle.std.proofs.lemmas.List.{length-append, length-map, map-append}
 use Rattle.std.proofs.lemmas.List.Elements.{filter-append}
-use Rattle.urb_names.specs.declared.limits.TheConstants.{MAX_NODES, MAX_SENDERS}
-use Rattle.urb_names.specs.LabelsAndContents.{Label, Content}
-use Rattle.urb_names.specs.Names.{has_name}
-use Rattle.urb_names.specs.Nodes.{nodes, numbers_from}
-use Rattle.urb_names.specs.Acknowledgements.{acked}
-use Rattle.urb_names.specs.CarriedPackets.{Carried, others, packets_to, to_unheard}
-use Rattle.urb_names.specs.declared.flags.Flags.{Flags}
+use Rattle.urb_names.specs.Nodes.{nodes}
 use Rattle.urb_pending.proofs.PairSearches.{numbers_length}
 use Rattle.urb_names.proofs.Places.{numbers_more}
 

@@ -1,19 +1,13 @@
 -- The counts of settled names, after hearing a certificate and after dropping what was heard.
-use Rattle.std.proofs.Common.{◌≡◌, ◌≢◌, ℕ, ◌+◌, ◌-◌, ◌<◌, ◌≤◌, true, false, ◌&&◌, ◌==◌}
-use Rattle.std.proofs.Common.{List, length, get_or, slice_set, get_or-set_other, get_or-set_same}
-use Rattle.std.proofs.Common.{refl, sym, ap, ◌∙◌, subst, inl, inr, ◌⊎◌, arith}
-use Rattle.std.proofs.lemmas.Bool.{cases_eq, cases_lt, or_right}
+use Rattle.urb_stubborn.proofs.Common.{IsPassed, Label, List, MAX_SENDERS, Resending, ack_lt, acked}
+use Rattle.urb_stubborn.proofs.Common.{ap, arith, cases_lt, false, get_or, get_or-set_other}
+use Rattle.urb_stubborn.proofs.Common.{get_or-set_same, inl, inr, is_due, length, name, or_right}
+use Rattle.urb_stubborn.proofs.Common.{placed, refl, same_name, slice_set, subst, sym, true, ℕ}
+use Rattle.urb_stubborn.proofs.Common.{◌&&◌, ◌+◌, ◌-◌, ◌<◌, ◌==◌, ◌∙◌, ◌≡◌, ◌≢◌, ◌≤◌, ◌⊎◌}
+use Rattle.std.proofs.lemmas.Bool.{cases_eq}
 use Rattle.std.proofs.lemmas.List.{length-set}
-use Rattle.urb_names.specs.declared.limits.TheConstants.{MAX_SENDERS}
-use Rattle.urb_names.specs.LabelsAndContents.{Label}
-use Rattle.urb_names.specs.Names.{name, same_name}
-use Rattle.urb_names.specs.Acknowledgements.{ack_lt, acked}
-use Rattle.urb_names.specs.CarriedPackets.{is_due}
-use Rattle.urb_names.specs.RisingLists.{placed}
 use Rattle.urb_names.proofs.ElementPlaces.{any_insert}
-use Rattle.urb_stubborn.specs.Resends.{Resending}
 use Rattle.urb_stubborn.specs.internal.SettledInvariant.{IsKept, IsSettledBy, settled_of}
-use Rattle.urb_stubborn.specs.internal.TickWalks.{IsPassed}
 use Rattle.urb_stubborn.specs.declared.resend.Resend.TheInside.{Inside}
 use Rattle.urb_stubborn.proofs.DueNames.{due_less}
 

@@ -1,22 +1,16 @@
 -- A tick, name by name, and its progress.
-use Rattle.std.proofs.Common.{◌≡◌, ℕ, zero, suc, ◌+◌, ◌-◌, ◌<◌, ◌≤◌, true, false, not}
-use Rattle.std.proofs.Common.{List, [], ◌∷◌, ◌++◌, take, drop, length, filter, Option, None}
-use Rattle.std.proofs.Common.{Some, is_some, Result, Ok, Err, refl, sym, ap, ap₂, ◌∙◌, subst}
-use Rattle.std.proofs.Common.{append-nil, append_assoc, flat_map, arith}
-use Rattle.std.specs.List.{list_all}
-use Rattle.std.specs.Prelude.{IfOk, IsSome, option_map}
-use Rattle.std.proofs.lemmas.List.{flat_map_more, take_all, length-take}
+use Rattle.urb_stubborn.proofs.Common.{Carried, Content, Err, IfOk, IsSome, IsTick, IsWalked, Label}
+use Rattle.urb_stubborn.proofs.Common.{List, MAX_NODES, NAMES_PER_TICK, None, Ok, Option, Resending}
+use Rattle.urb_stubborn.proofs.Common.{Result, Some, [], ap, append-nil, append_assoc, ap₂}
+use Rattle.urb_stubborn.proofs.Common.{are_rising, arith, behind, between, drop, due_pairs, false}
+use Rattle.urb_stubborn.proofs.Common.{filter, first_name, flat_map, is_after, is_some, is_within}
+use Rattle.urb_stubborn.proofs.Common.{last_name, length, list_all, message_of, name_lt, not}
+use Rattle.urb_stubborn.proofs.Common.{option_map, refl, resent, subst, suc, sym, take}
+use Rattle.urb_stubborn.proofs.Common.{tick_packets, to_unheard, true, zero, ℕ, ◌++◌, ◌+◌, ◌-◌, ◌<◌}
+use Rattle.urb_stubborn.proofs.Common.{◌∙◌, ◌∷◌, ◌≡◌, ◌≤◌}
+use Rattle.std.proofs.lemmas.List.{flat_map_more, length-take, take_all}
 use Rattle.urb_stubborn.specs.declared.outbox.TheConstants.{OUTBOX_MAX}
-use Rattle.urb_names.specs.declared.limits.TheConstants.{MAX_NODES, NAMES_PER_TICK}
-use Rattle.urb_names.specs.LabelsAndContents.{Label, Content}
-use Rattle.urb_names.specs.Names.{name_lt}
-use Rattle.urb_names.specs.Pairs.{message_of}
-use Rattle.urb_names.specs.CarriedPackets.{Carried, to_unheard}
-use Rattle.urb_names.specs.CyclicOrder.{are_rising, cyclic, is_after, last_name, resent}
-use Rattle.urb_pending.specs.PendingSet.{first_name}
-use Rattle.urb_stubborn.specs.Resends.{Resending, tick_packets}
-use Rattle.urb_stubborn.specs.internal.TickWalks.{IsTick, IsWalked, behind, between, due_pairs}
-use Rattle.urb_stubborn.specs.internal.TickWalks.{is_within}
+use Rattle.urb_names.specs.CyclicOrder.{cyclic}
 use Rattle.urb_stubborn.specs.declared.resend.TickTurn.{TickTurn}
 use Rattle.urb_stubborn.proofs.PairsAfterCursor.{Pairs}
 use Rattle.urb_stubborn.proofs.PairRanges.{AreFound, all_found, all_pass, between_next, found_kept}

@@ -1,18 +1,14 @@
 -- The number of events that a House counts in a turn, and in turns one after the other.
-use Rattle.std.proofs.Common.{◌≡◌, ◌+◌, ◌-◌, ◌^◌, ◌==◌, if◌then◌else◌, eqb-true, ◌<◌, ◌≤◌, ℕ, zero}
-use Rattle.std.proofs.Common.{suc, Bool, true, false, Ok, Err, Option, Result, ap, refl, sym, ◌∙◌}
-use Rattle.std.proofs.Common.{arith, add-zero}
-use Rattle.std.specs.declared.alloc.Global.{Global}
-use Rattle.urb_world.specs.Step.{Event}
+use Rattle.urb_turn.proofs.Common.{Begins, Bool, Counts, Ends, Err, Event, Global, HouseView, Job}
+use Rattle.urb_turn.proofs.Common.{NothingNew, Ok, Option, OutOfMemory, Published, Result, Settles}
+use Rattle.urb_turn.proofs.Common.{Stage, Status, add-zero, ap, arith, count_of, eqb-true, false}
+use Rattle.urb_turn.proofs.Common.{if◌then◌else◌, refl, suc, sym, true, zero, ℕ, ◌+◌, ◌-◌, ◌<◌}
+use Rattle.urb_turn.proofs.Common.{◌==◌, ◌^◌, ◌∙◌, ◌≡◌, ◌≤◌}
 use Rattle.urb_group.specs.declared.reply.Reply.{Reply}
-use Rattle.urb_show.specs.Houses.{HouseView, next_count}
-use Rattle.urb_show.specs.declared.status.Status.{Status}
-use Rattle.urb_turn.specs.Counting.{count_after, count_of}
-use Rattle.urb_turn.specs.Settlings.{NothingNew, OutOfMemory, Published, Settles, Told}
-use Rattle.urb_turn.specs.Turns.{Begins, Counts, Ends}
-use Rattle.urb_turn.specs.declared.job.Job.{Job}
+use Rattle.urb_show.specs.Houses.{next_count}
+use Rattle.urb_turn.specs.Counting.{count_after}
+use Rattle.urb_turn.specs.Settlings.{Told}
 use Rattle.urb_turn.specs.declared.job.Job.TheVariants as job
-use Rattle.urb_turn.specs.declared.turn_stages.Stage.{Stage}
 use Rattle.urb_turn.specs.declared.turn_stages.Stage.TheVariants as stage
 
 same_events : (old new : HouseView) → new ≡ old → new.events ≡ old.events

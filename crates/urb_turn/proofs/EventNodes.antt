@@ -1,12 +1,7 @@
 -- The node of an event that is not refused is one of the House's group.
-use Rattle.std.proofs.Common.{◌≡◌, ◌≤◌, ℕ, Ok, List, arith}
-use Rattle.urb_stable.specs.Entries.{Entry}
-use Rattle.urb_stable.specs.PlacedRecords.{Placed}
-use Rattle.urb_node.specs.Replies.{Done, Stored, Up}
+use Rattle.urb_turn.proofs.Common.{ComesUp, Commit, Commits, Done, Entry, GroupView, IsSound, List}
+use Rattle.urb_turn.proofs.Common.{Ok, Placed, Restart, Stored, Up, arith, ℕ, ◌≡◌, ◌≤◌}
 use Rattle.urb_group.proofs.calls.DraftsInCalls.{node-bounds, steps-node}
-use Rattle.urb_group.specs.GroupCalls.{ComesUp, Commits}
-use Rattle.urb_group.specs.GroupViews.{GroupView, IsSound}
-use Rattle.urb_world.specs.Step.{Commit, Restart}
 
 -- the node of a receipt that is not refused is at most the number of nodes
 pub committed_node : (old new : GroupView) (receipt : Placed) (done : Done) (n : ℕ) → IsSound old

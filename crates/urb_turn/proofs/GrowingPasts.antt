@@ -1,19 +1,13 @@
 -- The past of the House only grows in a turn.
-use Rattle.std.proofs.Common.{Bool, Err, Ok, Option, Result, [], ap, false, sym, true, ℕ, ◌∙◌}
-use Rattle.std.proofs.Common.{◌∷◌, ◌≡◌}
-use Rattle.std.specs.declared.alloc.Global.{Global}
-use Rattle.urb_world.specs.Step.{Event}
+use Rattle.urb_turn.proofs.Common.{Begins, Bool, Counts, Ends, Err, Event, Global, HouseView}
+use Rattle.urb_turn.proofs.Common.{IsPrefix, Job, NothingNew, Ok, Option, OutOfMemory, Published}
+use Rattle.urb_turn.proofs.Common.{Result, Settles, Stage, Status, [], ap, false, sym, true, ℕ, ◌∙◌}
+use Rattle.urb_turn.proofs.Common.{◌∷◌, ◌≡◌}
 use Rattle.urb_group.specs.declared.reply.Reply.{Reply}
 use Rattle.urb_show.proofs.PastPrefixes.{prefix_same}
-use Rattle.urb_show.specs.Houses.{HouseView}
-use Rattle.urb_show.specs.declared.status.Status.{Status}
-use Rattle.urb_turn.specs.Settlings.{NothingNew, OutOfMemory, Published, Settles, Told}
-use Rattle.urb_turn.specs.Turns.{Begins, Counts, Ends}
-use Rattle.urb_turn.specs.declared.job.Job.{Job}
+use Rattle.urb_turn.specs.Settlings.{Told}
 use Rattle.urb_turn.specs.declared.job.Job.TheVariants as job
-use Rattle.urb_turn.specs.declared.turn_stages.Stage.{Stage}
 use Rattle.urb_turn.specs.declared.turn_stages.Stage.TheVariants as stage
-use mathlib.Core.List.{IsPrefix}
 
 same_past : (old new : HouseView) → new ≡ old → new.past ≡ old.past
 same_past old new e = ap (λ (h : HouseView). h.past) e

@@ -1,36 +1,27 @@
 -- The last loans of all workers: a node has rested since its worker gave the House back.
-use Rattle.std.proofs.Common.{Bool, IfSome, IsTrue, List, None, Option, Some, ap, arith, eq-eqb}
-use Rattle.std.proofs.Common.{eqb-true, replicate, ◌&&◌}
-use Rattle.std.proofs.Common.{false, get_or-set_other, get_or-set_same, if◌then◌else◌, inl, inr, length}
-use Rattle.std.proofs.Common.{map, refl, subst, suc, sym, true, zero, ℕ, ◌+◌, ◌++◌, ◌-◌, ◌<◌, ◌==◌}
-use Rattle.std.proofs.Common.{◌∙◌, ◌∷◌, [], ◌≡◌, ◌≢◌, ◌≤◌, ◌⊎◌, ⊎_elim}
-use Rattle.std.proofs.lemmas.Bool.{false≢true}
+use Rattle.urb_turn.proofs.Common.{AllBegin, AllRest, AllRestSince, AreLoans, Begins, Bool, Event}
+use Rattle.urb_turn.proofs.Common.{FinishedView, Finishes, Ghosts, GroupView, HasBegun, HasRested}
+use Rattle.urb_turn.proofs.Common.{HouseView, IfSome, IsLedTo, IsLoan, IsPrefix, IsSound}
+use Rattle.urb_turn.proofs.Common.{IsStoreAfter, IsTrue, Job, List, LoanEnds, LoanView, LoansView}
+use Rattle.urb_turn.proofs.Common.{None, Option, Shows, Some, Stage, Stores, TurnView, World, []}
+use Rattle.urb_turn.proofs.Common.{after, ap, arith, eq-eqb, eqb-true, events_in, events_until}
+use Rattle.urb_turn.proofs.Common.{false, false≢true, get_or-set_other, get_or-set_same}
+use Rattle.urb_turn.proofs.Common.{if◌then◌else◌, inl, inr, length, map, refl, replicate, runs_at}
+use Rattle.urb_turn.proofs.Common.{slice_index_or, slice_set, subst, suc, sym, true, zero, ℕ}
+use Rattle.urb_turn.proofs.Common.{⊎_elim, ◌&&◌, ◌++◌, ◌+◌, ◌-◌, ◌<◌, ◌==◌, ◌∙◌, ◌∷◌, ◌≡◌, ◌≢◌, ◌≤◌}
+use Rattle.urb_turn.proofs.Common.{◌⊎◌}
 use Rattle.std.proofs.lemmas.List.{get_or-replicate, get_or_past, length-replicate, set_past}
-use Rattle.std.specs.Prelude.{slice_index_or, slice_set}
-use Rattle.urb_group.specs.GroupViews.{GroupView, IsSound, Shows}
-use Rattle.urb_world.specs.RecoveryPlans.{after}
-use Rattle.urb_world.specs.Step.{Event}
 use Rattle.urb_group.specs.StoreContents.{WouldLeave}
-use Rattle.urb_world.specs.World.{World}
 use Rattle.urb_show.proofs.Prefixes.{prefix_whole}
-use Rattle.urb_show.specs.Houses.{HouseView}
-use Rattle.urb_show.specs.Pasts.{IsLedTo}
-use Rattle.urb_stable.specs.declared.stable.Stable.{Ghosts}
 use Rattle.urb_turn.proofs.OtherNodes.{begins-rest, ends-rest, rested-leaves, rested-store}
 use Rattle.urb_turn.proofs.OtherNodes.{rests-none, rests-on}
 use Rattle.urb_turn.proofs.TurnSteps.{whole_keeps}
-use Rattle.urb_turn.specs.Counting.{TallyView, events_in}
-use Rattle.urb_turn.specs.Loans.{AreLoans, IsLoan, LoanView, LoansView, end_of, events_until}
-use Rattle.urb_turn.specs.Jobs.{runs_at}
-use Rattle.urb_turn.specs.LastLoans.{AllBegin, AllRestSince, RestsSince}
+use Rattle.urb_turn.specs.Counting.{TallyView}
+use Rattle.urb_turn.specs.Loans.{end_of}
+use Rattle.urb_turn.specs.LastLoans.{RestsSince}
 use Rattle.urb_turn.specs.internal.CountedHouses.{AreLeftSince}
-use Rattle.urb_turn.specs.internal.LoanEnds.{AllRest, IsNextLoan, LoanEnds, back_of}
-use Rattle.urb_turn.specs.NodeStores.{HasRested, IsStoreAfter, IsStoreSince}
-use Rattle.urb_turn.specs.Turns.{Begins, Finishes, HasBegun, Stores}
-use Rattle.urb_turn.specs.Views.{FinishedView, TurnView}
-use Rattle.urb_turn.specs.declared.job.Job.{Job}
-use Rattle.urb_turn.specs.declared.turn_stages.Stage.{Stage}
-use mathlib.Core.List.{IsPrefix}
+use Rattle.urb_turn.specs.internal.LoanEnds.{IsNextLoan, back_of}
+use Rattle.urb_turn.specs.NodeStores.{IsStoreSince}
 
 -- a moment that is as long as another, and behind it, is the same
 pub same_moment : (xs ys : List Event) → length xs ≡ length ys → IsPrefix ys xs → xs ≡ ys

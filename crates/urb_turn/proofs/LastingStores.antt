@@ -1,26 +1,19 @@
 -- One node and its store, whatever the store answers: as one of a cluster's stores, and if the node
 -- went down meanwhile.
-use Rattle.std.proofs.Common.{Err, List, Ok, Option, Result, Some, [], ap, false, inl}
-use Rattle.std.proofs.Common.{inr, subst, sym, true, ◌++◌, ◌∙◌, ◌∷◌, ◌≡◌, ◌⊎◌, ⊎_elim}
-use Rattle.std.proofs.lemmas.Bool.{false≢true}
-use Rattle.urb_group.proofs.stops.SecuredClusters.{IsLastingOf, lasting-honest, lasting-known}
-use Rattle.urb_group.proofs.stops.SecuredClusters.{read-honest, still-down}
+use Rattle.urb_turn.proofs.Common.{Down, Entry, Err, Ghosts, Gives, IsLasting, IsLastingOf}
+use Rattle.urb_turn.proofs.Common.{IsStoreOf, Keeps, LeavesOf, List, MayLeave, Node, Ok, Option}
+use Rattle.urb_turn.proofs.Common.{Placed, Ready, Result, Some, Stays, StoreFault, [], ap, doubt}
+use Rattle.urb_turn.proofs.Common.{false, false≢true, inl, inr, is_down, leaves-draft, leaves-stay}
+use Rattle.urb_turn.proofs.Common.{subst, sym, true, ⊎_elim, ◌++◌, ◌∙◌, ◌∷◌, ◌≡◌, ◌⊎◌}
+use Rattle.urb_group.proofs.stops.SecuredClusters.{lasting-honest, lasting-known, read-honest}
+use Rattle.urb_group.proofs.stops.SecuredClusters.{still-down}
 use Rattle.urb_group.proofs.stops.StockedClusters.{leaves-held, left-by-draft, lost, rose, took}
 use Rattle.urb_group.proofs.stops.StockedClusters.{unread}
 use Rattle.urb_world.proofs.stops.StockedNodes.{Rises}
-use Rattle.urb_group.proofs.stops.StockedSteps.{Stays, leaves-stay, store-stays}
-use Rattle.urb_group.proofs.stops.StoppedCalls.{leaves-draft}
-use Rattle.urb_group.specs.StoreQuestions.{Gives}
-use Rattle.urb_group.specs.StoreContents.{HoldsOf, IsLasting, IsStoreOf, LeavesOf}
-use Rattle.urb_world.specs.ProcessStops.{MayLeave}
-use Rattle.urb_node.specs.Part.{Down, Node, Ready, State}
-use Rattle.urb_node.specs.Steps.{doubt, is_down}
-use Rattle.urb_stable.specs.Entries.{Entry}
-use Rattle.urb_stable.specs.KeptDrafts.{Keeps}
-use Rattle.urb_stable.specs.PlacedRecords.{Placed}
+use Rattle.urb_group.proofs.stops.StockedSteps.{store-stays}
+use Rattle.urb_group.specs.StoreContents.{HoldsOf}
+use Rattle.urb_node.specs.Part.{State}
 use Rattle.urb_stable.specs.StableStorage.{IsContents}
-use Rattle.urb_stable.specs.declared.stable.Stable.{Ghosts}
-use Rattle.urb_stable.specs.declared.stable.StoreFault.{StoreFault}
 
 module _ {S A : Type 0} (g : Ghosts S A) where
   -- the store of a node that is up is honest
@@ -38,7 +31,7 @@ module _ {S A : Type 0} (g : Ghosts S A) where
         certain = was.certain;
         doubtful = was.doubtful;
         only =
-            gives.lasts clean was.certain was.doubtful was.only;
+            (gives.lasts clean).contents was.certain was.doubtful was.only;
         may = was.may;
       }
     where

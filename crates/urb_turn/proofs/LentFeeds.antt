@@ -1,10 +1,7 @@
 -- A feed of a House that a worker has borrowed, and its portions.
-use Rattle.std.proofs.Common.{List, ℕ, ◌≡◌}
+use Rattle.urb_turn.proofs.Common.{Carried, GroupView, HouseView, IsSound, List, Shows, World, ℕ}
+use Rattle.urb_turn.proofs.Common.{◌≡◌}
 use Rattle.urb_feed.specs.Feeds.{FeedView, IsPortion, whole_feed}
-use Rattle.urb_group.specs.GroupViews.{GroupView, IsSound, Shows}
-use Rattle.urb_world.specs.World.{World}
-use Rattle.urb_names.specs.CarriedPackets.{Carried}
-use Rattle.urb_show.specs.Houses.{HouseView}
 use Rattle.urb_turn.specs.NodeFeeds.{BeginsFeed, IsFeedOf, IsNextPortion}
 
 -- a feed that a worker begins

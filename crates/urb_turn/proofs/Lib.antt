@@ -7,10 +7,11 @@
 -- makes one turn of its parts (`whole`), and OtherNodes says that other nodes only rest
 -- (`others-rest`). LastLoans makes a fact of it: a worker knows when it gave the House back last,
 -- and its node has rested since then (`turn_since`).
--- Then read what is told of a turn. Reported changes have happened (`reported-so`,
+-- Then read what a turn reports. Reported changes have happened (`reported-so`,
 -- ReportedChanges), and events are counted (`ends_count`, EventCounts). LentFeeds is about the
 -- feeds of a House. The folder `steps` of `urb_world` says what an event does, and the folders
 -- `stops` of `urb_world` and `urb_group` say what a stop does.
+mod Common
 pub mod EventCounts
 pub mod EventNodes
 pub mod GrowingPasts

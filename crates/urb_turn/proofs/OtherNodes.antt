@@ -1,59 +1,34 @@
 -- What a turn does to the nodes of other workers, and what a stored record says about its store.
-use Rattle.std.proofs.Common.{Err, List, None, Ok, Option, Result, Some, Vec, ap, append_assoc}
-use Rattle.std.proofs.Common.{eqb-true, false, inl, inr, refl, subst, sym, true, ℕ, ◌++◌, ◌-◌, ◌==◌}
-use Rattle.std.proofs.Common.{◌∙◌, ◌∷◌, [], ◌≡◌, ◌≢◌}
+use Rattle.urb_turn.proofs.Common.{AreElsewhere, Arrive, Begins, Carried, Counts, Done, Doubted}
+use Rattle.urb_turn.proofs.Common.{Ends, Entry, Err, Event, FinishedView, Ghosts, Global, Goes}
+use Rattle.urb_turn.proofs.Common.{GroupView, HasRested, HouseView, IsKeptOf, IsSound, IsStoreAfter}
+use Rattle.urb_turn.proofs.Common.{IsTurn, Job, Keeps, LeavesAfter, Limits, List, MayLeave, None}
+use Rattle.urb_turn.proofs.Common.{Ok, Option, Placed, Published, Refusal, Result, Shows, ShowsNode}
+use Rattle.urb_turn.proofs.Common.{Some, Stage, Status, Stays, StoreFault, Stores, Submit, Taken}
+use Rattle.urb_turn.proofs.Common.{Takes, Vec, World, [], after, after-append, answer_of, ap}
+use Rattle.urb_turn.proofs.Common.{append_assoc, crash_stage, eqb-true, false, image_stage, inl}
+use Rattle.urb_turn.proofs.Common.{inr, is_own, kept_stage, leaves-stay, node_of, packet_of, refl}
+use Rattle.urb_turn.proofs.Common.{refusal_of, restart_stage, runs_at, subst, sym, taken_stage}
+use Rattle.urb_turn.proofs.Common.{tick_stage, true, view_of, ℕ, ◌++◌, ◌-◌, ◌==◌, ◌∙◌, ◌∷◌, ◌≡◌}
+use Rattle.urb_turn.proofs.Common.{◌≢◌}
 use Rattle.std.proofs.lemmas.List.{append-nil}
 use Rattle.std.proofs.lemmas.Bool.{ne_eqb}
-use Rattle.std.specs.declared.alloc.Global.{Global}
 use Rattle.urb_group.proofs.shown.AgreeingWorlds.{sound-kept}
-use Rattle.urb_group.proofs.stops.StockedSteps.{Stays, leaves-stay}
 use Rattle.urb_world.proofs.stops.StoppedWorlds.{survives}
-use Rattle.urb_group.specs.GroupCalls.{Takes}
-use Rattle.urb_group.specs.GroupViews.{GroupView, IsSound, Shows, view_of}
-use Rattle.urb_world.specs.RecoveryPlans.{after}
-use Rattle.urb_world.specs.Step.{Arrive, Event, Submit}
-use Rattle.urb_world.specs.ProcessStops.{GoesOnIn, MayLeave}
-use Rattle.urb_world.specs.World.{World}
+use Rattle.urb_world.specs.ProcessStops.{GoesOnIn}
 use Rattle.urb_group.specs.declared.reply.Reply.{Reply}
-use Rattle.urb_group.specs.declared.reply.Reply.TheVariants as reply
 use Rattle.urb_group.specs.declared.state.State.{State}
-use Rattle.urb_group.specs.declared.state.State.TheVariants as state
-use Rattle.urb_group.specs.declared.taken.Taken.{Taken}
-use Rattle.urb_group.specs.declared.taken.Taken.TheVariants as taken
-use Rattle.urb_names.specs.CarriedPackets.{Carried}
-use Rattle.urb_names.specs.LabelsAndContents.{Limits}
-use Rattle.urb_names.specs.PacketGrammar.{packet_of}
-use Rattle.urb_names.specs.declared.refusal.Refusal.{Refusal}
-use Rattle.urb_names.specs.declared.refusal.Refusal.TheVariants as refusal
-use Rattle.urb_node.specs.Replies.{Done}
-use Rattle.urb_node.specs.NodeViews.{ShowsNode}
-use Rattle.urb_show.specs.Houses.{HouseView}
-use Rattle.urb_show.specs.declared.status.Status.{Status}
-use Rattle.urb_stable.specs.StoreAnswers.{answer_of}
-use Rattle.urb_stable.specs.Doubts.{Doubted}
-use Rattle.urb_stable.specs.Entries.{Entry}
-use Rattle.urb_stable.specs.KeptDrafts.{Keeps}
-use Rattle.urb_stable.specs.PlacedRecords.{Placed}
-use Rattle.urb_stable.specs.StableStorage.{refusal_of}
-use Rattle.urb_stable.specs.declared.stable.Stable.{Ghosts}
-use Rattle.urb_stable.specs.declared.stable.StoreFault.{StoreFault}
 use Rattle.urb_turn.proofs.GrowingPasts.{settled_past}
 use Rattle.urb_turn.proofs.LastingStores.{stays}
 use Rattle.urb_turn.proofs.TurnSteps.{goes_on, goes_still}
 use Rattle.urb_turn.proofs.WaitingNodes.{elsewhere-waited, waited-stays}
-use Rattle.urb_turn.specs.Jobs.{node_of, runs_at}
-use Rattle.urb_turn.specs.NodeStores.{AreElsewhere, HasRested, IsStoreAfter, LeavesAfter, is_own}
-use Rattle.urb_turn.specs.Settlings.{Published}
-use Rattle.urb_turn.specs.Stages.{crash_stage, image_stage, kept_stage, restart_stage}
-use Rattle.urb_turn.specs.Stages.{state_reply, status_reply, taken_stage, tick_stage}
-use Rattle.urb_turn.specs.Turns.{Begins, Counts, Ends, Goes, IsKeptOf, Stores}
-use Rattle.urb_turn.specs.WholeTurns.{IsTurn}
-use Rattle.urb_turn.specs.Views.{FinishedView}
-use Rattle.urb_turn.specs.declared.job.Job.{Job}
+use Rattle.urb_turn.specs.Stages.{state_reply, status_reply}
+use Rattle.urb_group.specs.declared.reply.Reply.TheVariants as reply
+use Rattle.urb_group.specs.declared.state.State.TheVariants as state
+use Rattle.urb_group.specs.declared.taken.Taken.TheVariants as taken
+use Rattle.urb_names.specs.declared.refusal.Refusal.TheVariants as refusal
 use Rattle.urb_turn.specs.declared.job.Job.TheVariants as job
-use Rattle.urb_turn.specs.declared.turn_stages.Stage.{Stage}
 use Rattle.urb_turn.specs.declared.turn_stages.Stage.TheVariants as stage
-use Rattle.urb_world.proofs.recovery.EventPlans.{after-append}
 
 -- ---- a node rests
 

@@ -1,41 +1,25 @@
 -- What is reported of a turn has happened, and a store's failure is reported.
-use Rattle.std.proofs.Common.{Bool, Err, List, None, Ok, Option, Result, Some, Vec, arith, eqb-true}
-use Rattle.std.proofs.Common.{false, if◌then◌else◌, refl, subst, sym, true, ℕ, ◌-◌, ◌==◌, ◌∙◌, ◌≡◌}
-use Rattle.std.proofs.Common.{◌≢◌}
-use Rattle.std.specs.declared.alloc.Global.{Global}
-use Rattle.urb_group.specs.GroupCalls.{ComesUp, GoesDown, Takes}
-use Rattle.urb_group.specs.GroupViews.{GroupView}
-use Rattle.urb_world.specs.Step.{Arrive, Event, Fail, Restart, Submit}
+use Rattle.urb_turn.proofs.Common.{Arrive, Begins, Bool, ComesUp, Doubted, Ends, Entry, Err, Event}
+use Rattle.urb_turn.proofs.Common.{Fail, Ghosts, Global, GoesDown, GroupView, HouseView, IsKeptOf}
+use Rattle.urb_turn.proofs.Common.{Job, List, None, Ok, Option, Placed, Published, Refusal, Restart}
+use Rattle.urb_turn.proofs.Common.{Result, Some, Stage, Status, StoreFault, Stores, Submit, Taken}
+use Rattle.urb_turn.proofs.Common.{Takes, Vec, arith, change_by, count_of, eqb-true, false}
+use Rattle.urb_turn.proofs.Common.{if◌then◌else◌, image_stage, kept_stage, packet_of, refl}
+use Rattle.urb_turn.proofs.Common.{refusal_of, restart_stage, subst, sym, taken_stage, true, ℕ, ◌-◌}
+use Rattle.urb_turn.proofs.Common.{◌==◌, ◌∙◌, ◌≡◌, ◌≢◌}
 use Rattle.urb_group.specs.declared.reply.Reply.{Reply}
-use Rattle.urb_group.specs.declared.reply.Reply.TheVariants as reply
 use Rattle.urb_group.specs.declared.state.State.{State}
-use Rattle.urb_group.specs.declared.state.State.TheVariants as state
-use Rattle.urb_group.specs.declared.taken.Taken.{Taken}
-use Rattle.urb_group.specs.declared.taken.Taken.TheVariants as taken
-use Rattle.urb_names.specs.PacketGrammar.{packet_of}
-use Rattle.urb_names.specs.declared.refusal.Refusal.{Refusal}
-use Rattle.urb_names.specs.declared.refusal.Refusal.TheVariants as refusal
-use Rattle.urb_show.specs.Houses.{HouseView}
-use Rattle.urb_show.specs.declared.status.Status.{Status}
-use Rattle.urb_stable.specs.Doubts.{Doubted}
-use Rattle.urb_stable.specs.Entries.{Entry}
-use Rattle.urb_stable.specs.PlacedRecords.{Placed}
-use Rattle.urb_stable.specs.StableStorage.{refusal_of}
-use Rattle.urb_stable.specs.declared.stable.Stable.{Ghosts}
-use Rattle.urb_stable.specs.declared.stable.StoreFault.{StoreFault}
 use Rattle.urb_turn.proofs.StoreKeeping.{settled_group}
-use Rattle.urb_turn.specs.Changes.{HasChanged, change_by, crash_by, failure_by, return_by}
-use Rattle.urb_turn.specs.Counting.{count_of}
-use Rattle.urb_turn.specs.Settlings.{Published}
-use Rattle.urb_turn.specs.Stages.{image_stage, kept_stage, restart_stage, taken_stage}
-use Rattle.urb_turn.specs.Turns.{Begins, Ends, IsKeptOf, Stores}
+use Rattle.urb_turn.specs.Changes.{HasChanged, crash_by, failure_by, return_by}
 use Rattle.urb_turn.specs.declared.change.Change.{Change}
-use Rattle.urb_turn.specs.declared.change.Change.TheVariants as change
-use Rattle.urb_turn.specs.declared.job.Job.{Job}
-use Rattle.urb_turn.specs.declared.job.Job.TheVariants as job
-use Rattle.urb_turn.specs.declared.turn_stages.Stage.{Stage}
-use Rattle.urb_turn.specs.declared.turn_stages.Stage.TheVariants as stage
 use Rattle.urb_turn.proofs.EventCounts.{few}
+use Rattle.urb_group.specs.declared.reply.Reply.TheVariants as reply
+use Rattle.urb_group.specs.declared.state.State.TheVariants as state
+use Rattle.urb_group.specs.declared.taken.Taken.TheVariants as taken
+use Rattle.urb_names.specs.declared.refusal.Refusal.TheVariants as refusal
+use Rattle.urb_turn.specs.declared.change.Change.TheVariants as change
+use Rattle.urb_turn.specs.declared.job.Job.TheVariants as job
+use Rattle.urb_turn.specs.declared.turn_stages.Stage.TheVariants as stage
 
 -- ---- what a report says of its turn
 

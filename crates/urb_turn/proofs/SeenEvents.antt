@@ -1,9 +1,7 @@
 -- Whether a turn follows what a desk has seen.
-use Rattle.std.proofs.Common.{Bool, IsTrue, List, None, Option, Some, false, refl}
-use Rattle.std.proofs.Common.{subst, sym, true, ◌↔◌, ◌≡◌}
-use Rattle.urb_world.specs.Step.{Event}
-use Rattle.urb_turn.specs.Loans.{Follows, LoansView, events_until}
-use mathlib.Core.List.{IsPrefix}
+use Rattle.urb_turn.proofs.Common.{Bool, Event, IsPrefix, IsTrue, List, LoansView, None, Option}
+use Rattle.urb_turn.proofs.Common.{Some, events_until, false, refl, subst, sym, true, ◌↔◌, ◌≡◌}
+use Rattle.urb_turn.specs.Loans.{Follows}
 
 -- Whether a turn follows what was seen: always, if nothing was seen before.
 pub after_nothing : (events : List Event) → (IsTrue true ↔ IsPrefix (events_until None) events)

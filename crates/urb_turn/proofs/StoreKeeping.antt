@@ -1,63 +1,43 @@
 -- After a turn the store still matches its node, and a stop inside the turn leaves what it may
 -- leave of the node.
-use Rattle.std.proofs.Common.{Bool, Err, None, Ok, Option, Result, Some, Vec, ap, cond, false, inl}
-use Rattle.std.proofs.Common.{inr, refl, subst, suc, sym, true, ℕ, ◌∙◌, ◌≡◌, ◌⊎◌, ⊎_elim, eqb-true}
-use Rattle.std.specs.declared.alloc.Global.{Global}
-use Rattle.std.proofs.lemmas.Bool.{false≢true}
-use Rattle.urb_world.proofs.steps.DraftsInSteps.{event_node, step-at, step-size}
-use Rattle.urb_group.proofs.stops.SecuredClusters.{IsLastingOf}
+use Rattle.urb_turn.proofs.Common.{Arrive, Begins, Bool, ComesUp, Commit, Commits, Counts, Crash}
+use Rattle.urb_turn.proofs.Common.{Done, Doubted, Drafted, Ends, Entry, Err, Event, Fail, Ghosts}
+use Rattle.urb_turn.proofs.Common.{Gives, Global, GoesDown, GroupView, HouseView, IsKeptOf}
+use Rattle.urb_turn.proofs.Common.{IsLasting, IsLastingOf, IsStoreAfter, IsStoreOf, Job, Keeps}
+use Rattle.urb_turn.proofs.Common.{LeavesAfter, LeavesOf, Node, None, NothingNew, Ok, Option}
+use Rattle.urb_turn.proofs.Common.{OutOfMemory, Placed, Published, Refusal, Refused, Restart}
+use Rattle.urb_turn.proofs.Common.{Result, Settles, Shows, Some, Stage, Status, StoreFault, Stored}
+use Rattle.urb_turn.proofs.Common.{Stores, Submit, Taken, Takes, Tick, Vec, WentDown, World, after}
+use Rattle.urb_turn.proofs.Common.{answer_of, ap, cond, doubt, eqb-true, event_node, false}
+use Rattle.urb_turn.proofs.Common.{false≢true, image_stage, inl, inr, is_down, is_node, kept_stage}
+use Rattle.urb_turn.proofs.Common.{leaves-draft, node_of, packet_of, quiet-stays, refl}
+use Rattle.urb_turn.proofs.Common.{restart_stage, runs_at, state_of, step, step-size, subst, suc}
+use Rattle.urb_turn.proofs.Common.{sym, taken_stage, true, view_of, ℕ, ⊎_elim, ◌∙◌, ◌≡◌, ◌⊎◌}
+use Rattle.urb_world.proofs.steps.DraftsInSteps.{step-at}
 use Rattle.urb_world.proofs.stops.StockedNodes.{commit-node, fail-node, restart-node}
-use Rattle.urb_group.proofs.stops.StockedSteps.{IsQuiet, quiet-stays}
-use Rattle.urb_group.proofs.stops.StoppedCalls.{leaves-draft}
+use Rattle.urb_group.proofs.stops.StockedSteps.{IsQuiet}
 use Rattle.urb_group.proofs.calls.StoreAnswers.{refused-as}
-use Rattle.urb_group.specs.StoreQuestions.{Gives}
-use Rattle.urb_group.specs.GroupCalls.{ComesUp, Commits, GoesDown, HoldsDraft, Steps, Takes}
-use Rattle.urb_group.specs.GroupViews.{GroupView, Shows, view_of}
-use Rattle.urb_group.specs.ReportedStates.{state_of}
-use Rattle.urb_world.specs.Step.{Arrive, Commit, Crash, Event, Fail, Restart, Submit, Tick, step}
-use Rattle.urb_world.specs.RecoveryPlans.{after}
-use Rattle.urb_group.specs.StoreContents.{IsLasting, IsStoreOf, LeavesOf}
-use Rattle.urb_world.specs.World.{World}
+use Rattle.urb_group.specs.GroupCalls.{HoldsDraft, Steps}
 use Rattle.urb_group.specs.declared.reply.Reply.{Reply as Told}
 use Rattle.urb_group.specs.declared.state.State.{State}
-use Rattle.urb_group.specs.declared.state.State.TheVariants as state
-use Rattle.urb_group.specs.declared.taken.Taken.{Taken}
-use Rattle.urb_group.specs.declared.taken.Taken.TheVariants as taken
-use Rattle.urb_names.specs.Nodes.{is_node}
-use Rattle.urb_names.specs.PacketGrammar.{packet_of}
-use Rattle.urb_names.specs.declared.refusal.Refusal.{Refusal}
-use Rattle.urb_names.specs.declared.refusal.Refusal.TheVariants as refusal
 use Rattle.urb_node.specs.CallEffects.{IsRefusedAs, MayGrow}
-use Rattle.urb_node.specs.Part as part
-use Rattle.urb_node.specs.Part.{Node}
-use Rattle.urb_node.specs.Replies.{Done, Drafted, Refused, Reply, Stored, WentDown}
-use Rattle.urb_node.specs.Steps.{doubt, is_down}
+use Rattle.urb_node.specs.Replies.{Reply}
 use Rattle.urb_show.proofs.PastEvents.{after_one_more}
-use Rattle.urb_show.specs.Houses.{HouseView, IsEvent}
-use Rattle.urb_show.specs.declared.status.Status.{Status}
-use Rattle.urb_stable.specs.StoreAnswers.{answer_of}
-use Rattle.urb_stable.specs.Doubts.{Doubted}
-use Rattle.urb_stable.specs.Entries.{Entry, name_of}
-use Rattle.urb_stable.specs.KeptDrafts.{Keeps}
-use Rattle.urb_stable.specs.PlacedRecords.{Placed}
+use Rattle.urb_show.specs.Houses.{IsEvent}
+use Rattle.urb_stable.specs.Entries.{name_of}
 use Rattle.urb_stable.specs.StableStorage.{list_in}
-use Rattle.urb_stable.specs.declared.stable.Stable.{Ghosts}
-use Rattle.urb_stable.specs.declared.stable.StoreFault.{StoreFault}
 use Rattle.urb_turn.proofs.LastingStores.{asked-still, gives-rose, gives-unread, keeps-late}
 use Rattle.urb_turn.proofs.LastingStores.{keeps-lost, keeps-took, left-of-draft, stays}
 use Rattle.urb_turn.proofs.GrowingPasts.{settled_past}
 use Rattle.urb_turn.proofs.WaitingNodes.{FellWith, HasWaited, HoldsAt, IsWorldOf, Waits, crash-held}
 use Rattle.urb_turn.proofs.WaitingNodes.{down-commits, down-fails, held-commits, held-fails}
 use Rattle.urb_turn.proofs.WaitingNodes.{waited-down, waited-held, waited-stays, waited-there}
-use Rattle.urb_turn.specs.Jobs.{node_of, runs_at}
-use Rattle.urb_turn.specs.Settlings.{NothingNew, OutOfMemory, Published, Settles}
+use Rattle.urb_group.specs.declared.state.State.TheVariants as state
+use Rattle.urb_group.specs.declared.taken.Taken.TheVariants as taken
+use Rattle.urb_names.specs.declared.refusal.Refusal.TheVariants as refusal
+use Rattle.urb_node.specs.Part as part
 use Rattle.urb_turn.specs.Settlings as settlings
-use Rattle.urb_turn.specs.Stages.{image_stage, kept_stage, restart_stage, taken_stage}
-use Rattle.urb_turn.specs.NodeStores.{IsStoreAfter, LeavesAfter}
-use Rattle.urb_turn.specs.Turns.{Begins, Counts, Ends, IsKeptOf, Stores}
-use Rattle.urb_turn.specs.declared.job.Job.{Job}
 use Rattle.urb_turn.specs.declared.job.Job.TheVariants as job
-use Rattle.urb_turn.specs.declared.turn_stages.Stage.{Stage}
 use Rattle.urb_turn.specs.declared.turn_stages.Stage.TheVariants as stage
 
 -- a settling changes no group

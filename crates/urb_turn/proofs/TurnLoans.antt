@@ -1,9 +1,8 @@
 -- The loans of the House in a turn, from the moments that the House gave.
-use Rattle.std.proofs.Common.{IfSome, List, None, Option, Some, subst, ap, sym, ◌∙◌, ◌≡◌}
-use Rattle.urb_world.specs.Step.{Event}
-use Rattle.urb_show.specs.Houses.{HouseView}
-use Rattle.urb_turn.specs.Loans.{AreLoans, AreLoansOf, IsLoan, LoanView, LoansView}
-use mathlib.Core.List.{IsPrefix}
+use Rattle.urb_turn.proofs.Common.{AreLoans, Event, HouseView, IfSome, IsLoan, IsPrefix, List}
+use Rattle.urb_turn.proofs.Common.{LoanView, LoansView, None, Option, Some, ap, subst, sym, ◌∙◌}
+use Rattle.urb_turn.proofs.Common.{◌≡◌}
+use Rattle.urb_turn.specs.Loans.{AreLoansOf}
 
 marked : (moment : Option (List Event)) (m past : List Event) → IfSome moment (λ x. x ≡ past)
     → moment ≡ Some m → m ≡ past

@@ -1,29 +1,15 @@
 -- A turn from one stage to the next, and the whole turn.
-use Rattle.std.proofs.Common.{Bool, Err, IfSome, Ok, Option, false, inl, inr, refl, subst}
-use Rattle.std.proofs.Common.{true, ℕ, ◌-◌, ◌≡◌}
-use Rattle.std.proofs.lemmas.Bool.{false≢true}
-use Rattle.std.specs.declared.alloc.Global.{Global}
-use Rattle.urb_group.specs.GroupViews.{GroupView, IsSound, Shows}
-use Rattle.urb_world.specs.World.{World}
+use Rattle.urb_turn.proofs.Common.{AreLoans, Begins, Bool, CameOf, Ends, Err, FinishedView}
+use Rattle.urb_turn.proofs.Common.{Finishes, Ghosts, Global, Goes, GroupView, HasBegun, HasRested}
+use Rattle.urb_turn.proofs.Common.{HouseView, IfSome, IsLedTo, IsLoan, IsSound, IsStoreAfter}
+use Rattle.urb_turn.proofs.Common.{IsTurnAt, Job, LoanView, LoansView, Ok, Option, Placed}
+use Rattle.urb_turn.proofs.Common.{Published, Shows, Stage, Status, Stores, TurnView, World, false}
+use Rattle.urb_turn.proofs.Common.{false≢true, inl, inr, refl, runs_at, subst, true, ℕ, ◌-◌, ◌≡◌}
 use Rattle.urb_group.specs.declared.reply.Reply.{Reply}
-use Rattle.urb_show.specs.Houses.{HouseView}
-use Rattle.urb_show.specs.Pasts.{IsLedTo}
-use Rattle.urb_show.specs.declared.status.Status.{Status}
-use Rattle.urb_stable.specs.PlacedRecords.{Placed}
-use Rattle.urb_stable.specs.declared.stable.Stable.{Ghosts}
 use Rattle.urb_turn.proofs.StoreKeeping.{from-world, left-from, to-world, turn-keeps, turn-leaves}
 use Rattle.urb_turn.proofs.WaitingNodes.{rested-waits}
-use Rattle.urb_turn.specs.Jobs.{runs_at}
 use Rattle.urb_turn.proofs.TurnLoans.{loans_of}
-use Rattle.urb_turn.specs.Loans.{AreLoans, IsLoan, LoanView, LoansView}
-use Rattle.urb_turn.specs.NodeStores.{HasRested, IsStoreAfter}
-use Rattle.urb_turn.specs.Settlings.{Published}
 use Rattle.urb_turn.specs.Stages.{is_stored}
-use Rattle.urb_turn.specs.Turns.{Begins, CameOf, Ends, Finishes, Goes, HasBegun, Stores}
-use Rattle.urb_turn.specs.Views.{FinishedView, TurnView}
-use Rattle.urb_turn.specs.WholeTurns.{IsTurnAt}
-use Rattle.urb_turn.specs.declared.job.Job.{Job}
-use Rattle.urb_turn.specs.declared.turn_stages.Stage.{Stage}
 use Rattle.urb_turn.specs.declared.turn_stages.Stage.TheVariants as stage
 
 -- ---- stages

@@ -1,33 +1,26 @@
 -- A node to which nothing happened except a crash; and what an event says about a node that holds a
 -- draft or is down.
-use Rattle.std.proofs.Common.{Bool, List, Option, Some, [], ap, eq-eqb, eqb-true, false, inl, inr}
-use Rattle.std.proofs.Common.{length, refl, subst, suc, sym, true, ℕ, ◌&&◌, ◌==◌, ◌∙◌, ◌∷◌, ◌≡◌}
-use Rattle.std.proofs.Common.{◌⊎◌, ⊎_elim}
-use Rattle.std.proofs.lemmas.Bool.{and_from, cond-false, cond-true, cond_both, false≢true}
-use Rattle.urb_world.proofs.steps.DraftsInSteps.{event_node, step-elsewhere, step-size}
+use Rattle.urb_turn.proofs.Common.{AreElsewhere, Arrive, Bool, Commit, Crash, Done, Down, Entry}
+use Rattle.urb_turn.proofs.Common.{Event, Fail, GroupView, HasRested, HouseView, IsLedTo, Limits}
+use Rattle.urb_turn.proofs.Common.{List, Node, Option, Placed, Refused, Restart, Shows, Some, Stays}
+use Rattle.urb_turn.proofs.Common.{Stored, Submit, Tick, WentDown, World, [], after, after-append}
+use Rattle.urb_turn.proofs.Common.{ap, cond-false, doubt, eq-eqb, eqb-true, event_node, false}
+use Rattle.urb_turn.proofs.Common.{false≢true, goes_down, inl, inr, is_down, is_node, is_own}
+use Rattle.urb_turn.proofs.Common.{length, quiet-stays, refl, refuses, run, step, step-size, subst}
+use Rattle.urb_turn.proofs.Common.{suc, sym, true, world_after, ℕ, ⊎_elim, ◌&&◌, ◌==◌, ◌∙◌, ◌∷◌}
+use Rattle.urb_turn.proofs.Common.{◌≡◌, ◌⊎◌}
+use Rattle.std.proofs.lemmas.Bool.{and_from, cond-true, cond_both}
+use Rattle.urb_world.proofs.steps.DraftsInSteps.{step-elsewhere}
 use Rattle.urb_world.proofs.steps.OneNodeStep.{updated-at}
-use Rattle.urb_group.proofs.stops.StockedSteps.{Stays, quiet-stays}
-use Rattle.urb_group.specs.GroupViews.{GroupView, Shows}
-use Rattle.urb_world.specs.RecoveryPlans.{after}
-use Rattle.urb_world.specs.Step.{Arrive, Commit, Crash, Event, Fail, Restart, Submit, Tick, at_node}
-use Rattle.urb_world.specs.Step.{run, step, world_after}
-use Rattle.urb_world.specs.World.{World}
-use Rattle.urb_names.specs.LabelsAndContents.{Limits}
-use Rattle.urb_names.specs.Nodes.{is_node}
-use Rattle.urb_names.specs.declared.refusal.Refusal.TheVariants as refusal
+use Rattle.urb_world.specs.Step.{at_node}
 use Rattle.urb_node.proofs.RestartReplies.{same_record-same}
-use Rattle.urb_node.specs.Part.{Down, Node, State, Storing}
-use Rattle.urb_node.specs.Replies.{Done, Refused, Reply, Stored, WentDown}
-use Rattle.urb_node.specs.Steps.{commits, crashes, done, doubt, fails, goes_down, is_down}
-use Rattle.urb_node.specs.Steps.{keeps_record, next_position, refuses, same_record}
+use Rattle.urb_node.specs.Part.{State, Storing}
+use Rattle.urb_node.specs.Replies.{Reply}
+use Rattle.urb_node.specs.Steps.{commits, crashes, done, fails, keeps_record, next_position}
+use Rattle.urb_node.specs.Steps.{same_record}
 use Rattle.urb_node.specs.declared.cause.Cause.{Cause}
-use Rattle.urb_stable.specs.Entries.{Entry}
-use Rattle.urb_show.specs.Houses.{HouseView}
-use Rattle.urb_show.specs.Pasts.{IsLedTo}
-use Rattle.urb_stable.specs.PlacedRecords.{Placed}
-use Rattle.urb_turn.specs.NodeStores.{AreElsewhere, HasRested, is_own}
-use Rattle.urb_world.proofs.recovery.EventPlans.{after-append}
 use Rattle.urb_world.proofs.stops.StockedNodes.{node-after}
+use Rattle.urb_names.specs.declared.refusal.Refusal.TheVariants as refusal
 
 -- ---- what one event says about its node
 

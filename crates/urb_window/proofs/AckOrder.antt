@@ -1,14 +1,12 @@
 -- The order of acknowledgements.
-use Rattle.std.proofs.Common.{◌≡◌, ℕ, ◌<◌, Bool, true, false, ◌&&◌, ◌==◌, sym, subst, ◌∙◌, inl, inr}
-use Rattle.std.proofs.Common.{◌⊎◌, ⊎_elim, arith, eq-eqb, ltb-true, lt-ltb, nat_lt}
-use Rattle.std.proofs.lemmas.Bool.{and_from, and_parts, cases_Bool, cases_order, false≢true}
-use Rattle.std.proofs.lemmas.Bool.{or_left, or_right, or_cases}
-use Rattle.urb_names.specs.LabelsAndContents.{Label}
-use Rattle.urb_names.specs.Names.{name_lt, same_name}
-use Rattle.urb_names.proofs.SameNames.{same_name-same, same_name-true}
-use Rattle.urb_names.proofs.RisingPairs.{name_lt-trans, name_lt-one_way}
+use Rattle.urb_window.proofs.Common.{Bool, Label, ack_lt, and_from, and_parts, arith, cases_Bool}
+use Rattle.urb_window.proofs.Common.{eq-eqb, false, false≢true, inl, inr, name_lt, nat_lt, or_left}
+use Rattle.urb_window.proofs.Common.{or_right, same_name, same_name-same, same_name-true, subst}
+use Rattle.urb_window.proofs.Common.{sym, true, ℕ, ⊎_elim, ◌&&◌, ◌<◌, ◌==◌, ◌∙◌, ◌≡◌, ◌⊎◌}
+use Rattle.std.proofs.Common.{lt-ltb, ltb-true}
+use Rattle.std.proofs.lemmas.Bool.{cases_order, or_cases}
+use Rattle.urb_names.proofs.RisingPairs.{name_lt-one_way, name_lt-trans}
 use Rattle.urb_names.proofs.ElementPlaces.{IsStrictOrder}
-use Rattle.urb_names.specs.Acknowledgements.{ack_lt}
 
 -- whether two acknowledgements are the same
 abbrev pub same_ack : Label × ℕ → Label × ℕ → Bool

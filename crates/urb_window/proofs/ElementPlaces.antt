@@ -1,14 +1,11 @@
 -- Putting elements at their places in lists made of parts.
-use Rattle.std.proofs.Common.{◌≡◌, ℕ, suc, ◌+◌, ◌<◌, ◌≤◌, ◌^◌, Bool, true, false, not}
-use Rattle.std.proofs.Common.{◌==◌, nat_lt, List, [], ◌∷◌, ◌++◌, length, Some, None, refl}
-use Rattle.std.proofs.Common.{sym, ap, ◌∙◌, subst, inl, inr, ◌⊎◌, arith, eq-eqb, ne_eqb}
-use Rattle.std.specs.List.{list_all}
-use Rattle.std.proofs.lemmas.Bool.{and_from, and_parts, cases_Bool, cases_eq, cases_lt, cond-false}
-use Rattle.std.proofs.lemmas.Bool.{cond-true, le-ltb, lt-ltb, not-true}
-use Rattle.urb_names.specs.RisingLists.{placed}
-use Rattle.urb_names.proofs.ElementPlaces.{placed_behind, placed_front}
-use Rattle.urb_window.specs.Row.{counted_from}
-use Rattle.urb_window.specs.internal.RowOperations.{AreOver, number_lt, numbered}
+use Rattle.urb_window.proofs.Common.{AreOver, Bool, List, None, Some, [], and_from, and_parts, ap}
+use Rattle.urb_window.proofs.Common.{arith, cases_Bool, cases_eq, cases_lt, cond-false, cond-true}
+use Rattle.urb_window.proofs.Common.{counted_from, eq-eqb, false, inl, inr, le-ltb, length}
+use Rattle.urb_window.proofs.Common.{list_all, nat_lt, ne_eqb, not, not-true, number_lt, numbered}
+use Rattle.urb_window.proofs.Common.{placed, placed_behind, placed_front, refl, subst, suc, sym}
+use Rattle.urb_window.proofs.Common.{true, ℕ, ◌++◌, ◌+◌, ◌<◌, ◌==◌, ◌^◌, ◌∙◌, ◌∷◌, ◌≡◌, ◌≤◌, ◌⊎◌}
+use Rattle.std.proofs.lemmas.Bool.{lt-ltb}
 
 module _ {X : Type 0} (before : X → X → Bool) (x : X) where
   -- after a part whose elements all come before it, an element goes to its place in the rest

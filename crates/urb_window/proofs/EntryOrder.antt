@@ -1,23 +1,15 @@
 -- The entries of rows are in order of name.
-use Rattle.std.proofs.Common.{◌≡◌, ℕ, suc, ◌+◌, ◌-◌, ◌<◌, ◌≤◌, ◌^◌, Bool, true, false}
-use Rattle.std.proofs.Common.{◌&&◌, ◌||◌, ◌==◌, nat_lt, List, [], ◌∷◌, ◌++◌, length}
-use Rattle.std.proofs.Common.{Option, Some, None, is_some, refl, sym, ap, ap₂, ◌∙◌, inl, inr}
-use Rattle.std.proofs.Common.{◌⊎◌, arith, eq-eqb, ne_eqb}
-use Rattle.std.specs.List.{AllByRecursion, list_all}
-use Rattle.std.proofs.lemmas.Bool.{and_from, and_left, and_parts, cases_eq, cases_lt, cond-false}
-use Rattle.std.proofs.lemmas.Bool.{false≢true, le-ltb, lt-ltb, or_from, or_left}
-use Rattle.std.proofs.lemmas.List.{get_or_past}
+use Rattle.urb_window.proofs.Common.{AllByRecursion, AreOver, Bool, IsRow, IsWindowSet, Label, List}
+use Rattle.urb_window.proofs.Common.{MAX_SENDERS, None, Option, Row, Some, [], and_from, and_left}
+use Rattle.urb_window.proofs.Common.{and_parts, ap, ap₂, arith, cases_eq, cases_lt, cond-false}
+use Rattle.urb_window.proofs.Common.{entries_from, entry_lt, eq-eqb, false, false≢true, get_or_past}
+use Rattle.urb_window.proofs.Common.{inl, inr, is_rising, is_some, le-ltb, length, list_all, name}
+use Rattle.urb_window.proofs.Common.{name_lt, named, nat_lt, ne_eqb, no_row, numbered, or_left}
+use Rattle.urb_window.proofs.Common.{pairs_of, refl, row_at, suc, sym, true, value_of, ℕ, ◌&&◌}
+use Rattle.urb_window.proofs.Common.{◌++◌, ◌+◌, ◌-◌, ◌<◌, ◌==◌, ◌^◌, ◌||◌, ◌∙◌, ◌∷◌, ◌≡◌, ◌≤◌, ◌⊎◌}
+use Rattle.std.proofs.lemmas.Bool.{lt-ltb, or_from}
 use Rattle.std.proofs.lemmas.List.Folds.{list_all-append}
-use Rattle.urb_names.specs.declared.limits.TheConstants.{MAX_SENDERS}
-use Rattle.urb_names.specs.LabelsAndContents.{Label, IsLabel}
-use Rattle.urb_names.specs.Names.{name, name_lt}
-use Rattle.urb_names.specs.RisingLists.{is_rising}
-use Rattle.urb_window.specs.Entries.{entry_lt, value_of}
-use Rattle.urb_window.specs.Row.{Row, pairs_of}
-use Rattle.urb_window.specs.internal.RowOperations.{AreOver, IsRow, numbered}
-use Rattle.urb_window.specs.RowEntries.{entries_from, named}
-use Rattle.urb_window.specs.internal.SenderRows.{no_row, row_at}
-use Rattle.urb_window.specs.WindowSet.{IsWindowSet}
+use Rattle.urb_names.specs.LabelsAndContents.{IsLabel}
 use Rattle.urb_window.proofs.NumberedValues.{pairs_over}
 use Rattle.urb_window.proofs.NameSearches.{all_at, has_value, value_none, value_rows}
 

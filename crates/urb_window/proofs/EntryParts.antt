@@ -1,17 +1,12 @@
 -- The two parts of a sender's entries: those without a gap, and those above it.
-use Rattle.std.proofs.Common.{◌≡◌, ℕ, suc, ◌+◌, ◌-◌, ◌<◌, ◌≤◌, ◌&&◌, ◌==◌, nat_lt, nat_le, List, []}
-use Rattle.std.proofs.Common.{◌∷◌, ◌++◌, filter, map, length, count_by, refl, sym, ap, ◌∙◌, arith}
-use Rattle.std.specs.List.{AllByRecursion}
-use Rattle.std.proofs.lemmas.Bool.{cond-false, cond-true, le-leb, le-ltb, lt-ltb, leb-true}
-use Rattle.std.proofs.lemmas.Bool.{false_from_ne_true}
-use Rattle.std.proofs.lemmas.List.{length-map}
+use Rattle.urb_window.proofs.Common.{AllByRecursion, AreOver, IsRow, Label, List, Row, [], above_of}
+use Rattle.urb_window.proofs.Common.{ap, arith, cond-false, cond-true, count_by, counted_from}
+use Rattle.urb_window.proofs.Common.{entries_from, false_from_ne_true, filter, le-ltb, length}
+use Rattle.urb_window.proofs.Common.{length-map, map, named, nat_le, nat_lt, refl, row_at, suc, sym}
+use Rattle.urb_window.proofs.Common.{window_of, ℕ, ◌&&◌, ◌++◌, ◌+◌, ◌-◌, ◌<◌, ◌==◌, ◌∙◌, ◌∷◌, ◌≡◌}
+use Rattle.urb_window.proofs.Common.{◌≤◌}
+use Rattle.std.proofs.lemmas.Bool.{le-leb, leb-true, lt-ltb}
 use Rattle.std.proofs.lemmas.List.Sums.{length-filter}
-use Rattle.urb_names.specs.LabelsAndContents.{Label}
-use Rattle.urb_window.specs.Entries.{above_of, window_of}
-use Rattle.urb_window.specs.Row.{Row, counted_from}
-use Rattle.urb_window.specs.internal.RowOperations.{AreOver, IsRow}
-use Rattle.urb_window.specs.RowEntries.{entries_from, named}
-use Rattle.urb_window.specs.internal.SenderRows.{row_at}
 use Rattle.urb_window.proofs.NameSearches.{all_at, low_is, part_rows}
 
 module _ {V : Type 0} where

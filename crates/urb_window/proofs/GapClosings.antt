@@ -1,11 +1,9 @@
 -- A gap that closes: the pair with the next number moves from the upper part to the lower.
-use Rattle.std.proofs.Common.{◌≡◌, ℕ, ◌+◌, ◌<◌, ◌^◌, true, false, List, [], ◌∷◌, ◌++◌, length, sym}
-use Rattle.std.proofs.Common.{ap, ◌∙◌, subst, inl, inr, ◌⊎◌, arith, eq-eqb}
-use Rattle.std.proofs.lemmas.Bool.{cases_eq, false≢true}
+use Rattle.urb_window.proofs.Common.{AreOver, List, [], ap, arith, cases_eq, counted_from, eq-eqb}
+use Rattle.urb_window.proofs.Common.{false, false≢true, holds_at, inl, inr, length, number_lt}
+use Rattle.urb_window.proofs.Common.{placed, subst, sym, true, ℕ, ◌++◌, ◌+◌, ◌<◌, ◌^◌, ◌∙◌, ◌∷◌}
+use Rattle.urb_window.proofs.Common.{◌≡◌, ◌⊎◌}
 use Rattle.std.proofs.lemmas.List.{length_push}
-use Rattle.urb_names.specs.RisingLists.{placed}
-use Rattle.urb_window.specs.Row.{counted_from}
-use Rattle.urb_window.specs.internal.RowOperations.{AreOver, holds_at, number_lt}
 use Rattle.urb_window.proofs.NumberedValues.{counted_push}
 use Rattle.urb_window.proofs.ElementPlaces.{placed_above, placed_under}
 

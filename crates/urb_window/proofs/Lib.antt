@@ -8,6 +8,7 @@
 -- and on how far a sender's numbers go, both in `urb_names`. Read the files in the order of the
 -- list below. Six are about one row, the next six about the rows of all senders, and the last six
 -- about masks.
+mod Common
 pub mod BinarySearches
 pub mod NumberedValues
 pub mod ElementPlaces

@@ -1,21 +1,14 @@
 -- The names that have masks, and what it takes to clear all masks.
-use Rattle.std.proofs.Common.{◌≡◌, ℕ, zero, suc, ◌+◌, ◌<◌, Bool, true, false, cond, List, [], ◌∷◌}
-use Rattle.std.proofs.Common.{◌++◌, length, map, Option, Some, None, is_some, refl, sym, ap, ap₂}
-use Rattle.std.proofs.Common.{◌∙◌, inl, inr, ◌⊎◌, arith, slice_get}
-use Rattle.std.specs.List.{list_all}
-use Rattle.std.specs.Prelude.{IsSome, option_map}
-use Rattle.std.proofs.lemmas.Bool.{and_from, and_parts, cases_Bool, cond-false, cond-true}
-use Rattle.std.proofs.lemmas.Bool.{false≢true, or_left}
-use Rattle.urb_names.specs.LabelsAndContents.{Label}
-use Rattle.urb_names.specs.Names.{has_name, name_lt, same_name}
-use Rattle.urb_names.specs.Acknowledgements.{ack_lt}
-use Rattle.urb_names.specs.RisingLists.{is_rising, placed}
-use Rattle.urb_names.proofs.ElementPlaces.{any_insert, placed_behind, placed_front}
-use Rattle.urb_names.proofs.SameNames.{same_name-same}
-use Rattle.urb_window.specs.Entries.{entry_lt, names_of, value_of, with_value}
-use Rattle.urb_window.specs.Marks.{MarkSet, marks_of, with_mark, with_room}
-use Rattle.urb_window.specs.NodeMasks.{marks_in, nodes_in}
-use Rattle.urb_window.specs.WindowSet.{WindowSet}
+use Rattle.urb_window.proofs.Common.{Bool, IsSome, Label, List, MarkSet, None, Option, Some}
+use Rattle.urb_window.proofs.Common.{WindowSet, [], ack_lt, and_from, and_parts, any_insert, ap}
+use Rattle.urb_window.proofs.Common.{ap₂, arith, cases_Bool, cond, cond-false, cond-true, entry_lt}
+use Rattle.urb_window.proofs.Common.{false, false≢true, has_name, inl, inr, is_rising, is_some}
+use Rattle.urb_window.proofs.Common.{length, list_all, map, marks_in, marks_of, name_lt, names_of}
+use Rattle.urb_window.proofs.Common.{nodes_in, option_map, or_left, placed, placed_behind}
+use Rattle.urb_window.proofs.Common.{placed_front, refl, same_name, same_name-same, slice_get, suc}
+use Rattle.urb_window.proofs.Common.{sym, true, value_of, with_value, zero, ℕ, ◌++◌, ◌+◌, ◌<◌, ◌∙◌}
+use Rattle.urb_window.proofs.Common.{◌∷◌, ◌≡◌, ◌⊎◌}
+use Rattle.urb_window.specs.Marks.{with_mark, with_room}
 use Rattle.urb_window.proofs.NameSearches.{has_value}
 
 module _ {V : Type 0} where

@@ -1,23 +1,16 @@
 -- The pairs that masks under names describe: which they are, and that they are in order.
-use Rattle.std.proofs.Common.{◌≡◌, ℕ, zero, suc, ◌+◌, ◌<◌, ◌≤◌, Bool, true, false, cond, ◌||◌, ◌&&◌}
-use Rattle.std.proofs.Common.{◌==◌, nat_lt, List, [], ◌∷◌, ◌++◌, map, filter, Some, refl, sym, ap}
-use Rattle.std.proofs.Common.{subst, ◌∙◌, inl, inr, ◌⊎◌, arith, eq-eqb, ne_eqb, lt-ltb}
-use Rattle.std.specs.Prelude.{unwrap_or}
-use Rattle.std.specs.List.{list_all, list_any}
-use Rattle.std.proofs.lemmas.Bool.{and_from, and_left, and_parts, cases_eq, false≢true}
-use Rattle.std.proofs.lemmas.Bool.{false_from_ne_true, or_left, or_right}
+use Rattle.urb_window.proofs.Common.{Bool, Label, List, MAX_NODES, Some, [], ack_lt, acked}
+use Rattle.urb_window.proofs.Common.{and_from, and_left, and_parts, ap, arith, cases_eq, cond}
+use Rattle.urb_window.proofs.Common.{entry_lt, eq-eqb, false, false_from_ne_true, false≢true}
+use Rattle.urb_window.proofs.Common.{filter, has_bit, inl, inr, is_rising, list_all, map, marks_in}
+use Rattle.urb_window.proofs.Common.{mask_of, name_lt, name_lt-strict, nat_lt, ne_eqb, nodes_in}
+use Rattle.urb_window.proofs.Common.{numbers_from, or_left, or_right, refl, same_name}
+use Rattle.urb_window.proofs.Common.{same_name-same, same_name-true, subst, suc, sym, true}
+use Rattle.urb_window.proofs.Common.{unwrap_or, value_of, zero, ℕ, ◌&&◌, ◌++◌, ◌+◌, ◌<◌, ◌==◌, ◌||◌}
+use Rattle.urb_window.proofs.Common.{◌∙◌, ◌∷◌, ◌≡◌, ◌≤◌, ◌⊎◌}
+use Rattle.std.proofs.Common.{lt-ltb}
+use Rattle.std.specs.List.{list_any}
 use Rattle.std.proofs.lemmas.List.Folds.{list_any-append}
-use Rattle.urb_names.specs.declared.limits.TheConstants.{MAX_NODES}
-use Rattle.urb_names.specs.LabelsAndContents.{Label}
-use Rattle.urb_names.specs.Names.{name_lt, same_name}
-use Rattle.urb_names.specs.Nodes.{numbers_from}
-use Rattle.urb_names.specs.Acknowledgements.{acked, ack_lt}
-use Rattle.urb_names.specs.RisingLists.{is_rising}
-use Rattle.urb_names.proofs.SameNames.{same_name-same, same_name-true}
-use Rattle.urb_window.specs.Entries.{entry_lt, value_of}
-use Rattle.urb_window.specs.NodeMasks.{marks_in, has_bit, nodes_in}
-use Rattle.urb_window.specs.internal.EntryMasks.{mask_of}
-use Rattle.urb_names.proofs.RisingPairs.{name_lt-strict}
 use Rattle.urb_window.proofs.EntryOrder.{rising_append}
 
 -- ---- the numbers that pass a test

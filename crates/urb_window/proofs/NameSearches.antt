@@ -1,20 +1,15 @@
 -- The value found under a name, and how far a sender's numbers go.
-use Rattle.std.proofs.Common.{◌≡◌, ℕ, zero, suc, ◌+◌, ◌-◌, ◌<◌, ◌≤◌, Bool, true, false, cond, ◌&&◌}
-use Rattle.std.proofs.Common.{◌||◌, ◌==◌, List, [], ◌∷◌, ◌++◌, filter, length, get_or, Option, Some}
-use Rattle.std.proofs.Common.{None, is_some, refl, ap, ◌∙◌, inl, inr, ◌⊎◌, arith, eq-eqb, ne_eqb}
-use Rattle.std.specs.List.{AllByRecursion}
-use Rattle.std.proofs.lemmas.Bool.{and_left, cases_eq, cond-false, cond-true}
+use Rattle.urb_window.proofs.Common.{AllByRecursion, Bool, IsRow, Label, List, None, Option, Row}
+use Rattle.urb_window.proofs.Common.{Some, [], and_left, ap, arith, cases_eq, cond, cond-false}
+use Rattle.urb_window.proofs.Common.{cond-true, counted_from, entries_from, eq-eqb, false, filter}
+use Rattle.urb_window.proofs.Common.{get_or, has_name, inl, inr, is_some, length, low_of, name}
+use Rattle.urb_window.proofs.Common.{named, names_of, ne_eqb, no_row, numbered, pairs_of, refl}
+use Rattle.urb_window.proofs.Common.{row_at, same_name, suc, true, value_of, zero, ℕ, ◌&&◌, ◌++◌}
+use Rattle.urb_window.proofs.Common.{◌+◌, ◌-◌, ◌<◌, ◌==◌, ◌||◌, ◌∙◌, ◌∷◌, ◌≡◌, ◌≤◌, ◌⊎◌}
 use Rattle.std.proofs.lemmas.List.Elements.{filter-append}
 use Rattle.std.proofs.lemmas.List.{append-nil}
-use Rattle.urb_names.specs.LabelsAndContents.{Label}
-use Rattle.urb_names.specs.Names.{has_name, name, same_name}
 use Rattle.urb_names.proofs.LogRows.{beginning_is, length-row, reach}
 use Rattle.urb_names.proofs.CertificateReaches.{reach-is}
-use Rattle.urb_window.specs.Entries.{low_of, names_of, value_of}
-use Rattle.urb_window.specs.Row.{Row, counted_from, pairs_of}
-use Rattle.urb_window.specs.internal.RowOperations.{IsRow, numbered}
-use Rattle.urb_window.specs.RowEntries.{entries_from, named}
-use Rattle.urb_window.specs.internal.SenderRows.{no_row, row_at}
 use Rattle.urb_window.proofs.NumberedValues.{numbered_behind}
 use Rattle.urb_window.proofs.BinarySearches.{numbered_none}
 

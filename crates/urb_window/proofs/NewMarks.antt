@@ -1,28 +1,22 @@
 -- Masks after one more bit is set: one more pair, at its place.
-use Rattle.std.proofs.Common.{◌≡◌, ℕ, suc, ◌+◌, ◌-◌, ◌<◌, ◌≤◌, ◌^◌, Bool, true, false, cond, ◌||◌}
-use Rattle.std.proofs.Common.{◌&&◌, ◌==◌, List, [], ◌∷◌, Option, Some, None, is_some, refl, sym, ap}
-use Rattle.std.proofs.Common.{ap₂, subst, ◌∙◌, inl, inr, ◌⊎◌, arith, eq-eqb, ne_eqb, eqb-true}
-use Rattle.std.proofs.Common.{nat_lt}
-use Rattle.std.specs.Prelude.{unwrap_or}
-use Rattle.std.proofs.lemmas.Bool.{and_from, and_parts, cases_Bool, cases_eq, cases_lt, cond-false}
-use Rattle.std.proofs.lemmas.Bool.{cond-true, false≢true, false_from_ne_true, le-ltb}
-use Rattle.urb_names.specs.declared.limits.TheConstants.{MAX_NODES}
-use Rattle.urb_names.specs.LabelsAndContents.{Label}
-use Rattle.urb_names.specs.Names.{name_lt, same_name}
-use Rattle.urb_names.specs.Acknowledgements.{acked, ack_lt}
-use Rattle.urb_names.specs.RisingLists.{is_rising, placed}
-use Rattle.urb_names.proofs.SameNames.{same_name-same, same_name-true}
-use Rattle.urb_names.proofs.ElementPlaces.{any_insert, placed_behind, placed_front, rising_placed}
-use Rattle.urb_window.specs.Entries.{entry_lt, value_of, with_value}
+use Rattle.urb_window.proofs.Common.{Bool, Label, List, MAX_NODES, None, Option, Some, [], ack_lt}
+use Rattle.urb_window.proofs.Common.{acked, and_from, and_parts, any_insert, ap, ap₂, arith}
+use Rattle.urb_window.proofs.Common.{cases_Bool, cases_eq, cases_lt, cond, cond-false, cond-true}
+use Rattle.urb_window.proofs.Common.{entry_lt, eq-eqb, false, false_from_ne_true, false≢true}
+use Rattle.urb_window.proofs.Common.{has_bit, inl, inr, is_rising, is_some, le-ltb, marks_in}
+use Rattle.urb_window.proofs.Common.{mask_of, name_lt, name_lt-strict, nat_lt, ne_eqb, nodes_in}
+use Rattle.urb_window.proofs.Common.{placed, placed_behind, placed_front, refl, same_name}
+use Rattle.urb_window.proofs.Common.{same_name-same, same_name-true, subst, suc, sym, true}
+use Rattle.urb_window.proofs.Common.{unwrap_or, value_of, with_value, ℕ, ◌&&◌, ◌+◌, ◌-◌, ◌<◌, ◌==◌}
+use Rattle.urb_window.proofs.Common.{◌^◌, ◌||◌, ◌∙◌, ◌∷◌, ◌≡◌, ◌≤◌, ◌⊎◌}
+use Rattle.std.proofs.Common.{eqb-true}
+use Rattle.urb_names.proofs.ElementPlaces.{rising_placed}
 use Rattle.urb_certified.specs.internal.StrictOrders.{IsOrder}
 use Rattle.urb_certified.proofs.RisingSets.{rising_same}
-use Rattle.urb_window.specs.NodeMasks.{marks_in, has_bit, nodes_in}
-use Rattle.urb_window.specs.internal.EntryMasks.{mask_of}
 use Rattle.urb_window.proofs.AckOrder.{ack_lt-one_way, ack_lt-trans, acks_ordered, same_ack}
 use Rattle.urb_window.proofs.MaskBits.{set_is, set_more}
-use Rattle.urb_window.proofs.MaskPairs.{acked_is, marks_rise, is_one_of, none_behind, none_below}
+use Rattle.urb_window.proofs.MaskPairs.{acked_is, is_one_of, marks_rise, none_behind, none_below}
 use Rattle.urb_window.proofs.MaskPairs.{one_between}
-use Rattle.urb_names.proofs.RisingPairs.{name_lt-strict}
 
 -- ---- one more bit
 

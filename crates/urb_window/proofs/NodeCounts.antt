@@ -1,10 +1,9 @@
 -- How many nodes pass a test.
-use Rattle.std.proofs.Common.{◌≡◌, ℕ, zero, suc, ◌+◌, ◌-◌, ◌<◌, ◌≤◌, Bool, true, false, cond, ◌||◌}
-use Rattle.std.proofs.Common.{◌==◌, count_by, refl, sym, ap, ◌∙◌, subst, inl, inr, ◌⊎◌, arith}
-use Rattle.std.proofs.Common.{eq-eqb, ne_eqb}
-use Rattle.std.proofs.lemmas.Bool.{false≢true, cases_eq}
+use Rattle.urb_window.proofs.Common.{Bool, ap, arith, cases_eq, cond, count_by, eq-eqb, false}
+use Rattle.urb_window.proofs.Common.{false≢true, inl, inr, ne_eqb, numbers_from, refl, subst, suc}
+use Rattle.urb_window.proofs.Common.{sym, true, zero, ℕ, ◌+◌, ◌-◌, ◌<◌, ◌==◌, ◌||◌, ◌∙◌, ◌≡◌, ◌≤◌}
+use Rattle.urb_window.proofs.Common.{◌⊎◌}
 use Rattle.std.proofs.lemmas.List.Sums.{sum_by-cons}
-use Rattle.urb_names.specs.Nodes.{numbers_from}
 
 abbrev one_of : Bool → ℕ
 one_of b = cond b 1 0

@@ -1,13 +1,11 @@
 -- Values without a gap and the pairs after them: what is at each place.
-use Rattle.std.proofs.Common.{◌≡◌, ℕ, zero, suc, ◌+◌, ◌-◌, ◌<◌, ◌≤◌, ◌^◌, Bool, cond, ◌==◌, nat_lt}
-use Rattle.std.proofs.Common.{List, [], ◌∷◌, ◌++◌, find, length, get_or, Some, None, option_map}
-use Rattle.std.proofs.Common.{refl, sym, ap, ◌∙◌, subst, inl, inr, ◌⊎◌, arith, eq-eqb, ne_eqb}
-use Rattle.std.specs.Prelude.{slice_get}
-use Rattle.std.specs.List.{prefix_len}
-use Rattle.std.proofs.lemmas.Bool.{cases_eq, cases_lt, cond-false, cond-true, le-ltb, lt-ltb}
-use Rattle.std.proofs.lemmas.List.{length-append}
-use Rattle.urb_window.specs.Row.{Row, counted_from, pairs_of}
-use Rattle.urb_window.specs.internal.RowOperations.{AreOver, IsRow, numbered}
+use Rattle.urb_window.proofs.Common.{AreOver, Bool, IsRow, List, None, Row, Some, [], ap, arith}
+use Rattle.urb_window.proofs.Common.{cases_eq, cases_lt, cond, cond-false, cond-true, counted_from}
+use Rattle.urb_window.proofs.Common.{eq-eqb, find, get_or, inl, inr, le-ltb, length, length-append}
+use Rattle.urb_window.proofs.Common.{nat_lt, ne_eqb, numbered, option_map, pairs_of, prefix_len}
+use Rattle.urb_window.proofs.Common.{refl, slice_get, subst, suc, sym, zero, ℕ, ◌++◌, ◌+◌, ◌-◌, ◌<◌}
+use Rattle.urb_window.proofs.Common.{◌==◌, ◌^◌, ◌∙◌, ◌∷◌, ◌≡◌, ◌≤◌, ◌⊎◌}
+use Rattle.std.proofs.lemmas.Bool.{lt-ltb}
 use Rattle.urb_window.proofs.BinarySearches.{few_over, one_more, over_less}
 
 module _ {V : Type 0} where

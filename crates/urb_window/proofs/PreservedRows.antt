@@ -1,10 +1,8 @@
 -- A row preserves its order and its space.
-use Rattle.std.proofs.Common.{◌≡◌, ℕ, ◌+◌, ◌<◌, ◌≤◌, ◌^◌, List, length, None, sym, ap}
-use Rattle.std.proofs.Common.{◌∙◌, subst, arith}
-use Rattle.std.specs.Vec.{vec_len, vec_capacity}
-use Rattle.std.specs.VecDeque.{deque_len, deque_capacity}
-use Rattle.urb_window.specs.internal.RowOperations.{AreOver, IsRow}
-use Rattle.urb_window.specs.internal.RowInvariant.{HasRoom, IsRoomy, row_of}
+use Rattle.urb_window.proofs.Common.{AreOver, HasRoom, IsRow, List, None, ap, arith, deque_capacity}
+use Rattle.urb_window.proofs.Common.{deque_len, length, subst, sym, ℕ, ◌+◌, ◌<◌, ◌^◌, ◌∙◌, ◌≡◌, ◌≤◌}
+use Rattle.std.specs.Vec.{vec_capacity, vec_len}
+use Rattle.urb_window.specs.internal.RowInvariant.{IsRoomy, row_of}
 use Rattle.urb_window.specs.declared.window.Window.TheInside.{Inside}
 
 module _ {T A : Type 0} where

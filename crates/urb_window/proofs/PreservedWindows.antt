@@ -1,21 +1,13 @@
 -- Windows preserve their invariant: the rows of the senders, and the space that is promised.
-use Rattle.std.proofs.Common.{◌≡◌, ℕ, ◌+◌, ◌-◌, ◌<◌, ◌≤◌, List, length, get_or, slice_set, Some}
-use Rattle.std.proofs.Common.{None, is_some, sym, ap, ◌∙◌, subst, inl, inr, ◌⊎◌, arith}
-use Rattle.std.specs.Prelude.{IsSome}
-use Rattle.std.specs.List.{AllByRecursion}
-use Rattle.std.proofs.lemmas.Bool.{cases_eq, cases_lt, false≢true}
-use Rattle.std.proofs.lemmas.List.{get_or-set_other, get_or-set_same, get_or_default, get_or_past}
-use Rattle.std.proofs.lemmas.List.{length-set}
-use Rattle.urb_names.specs.declared.limits.TheConstants.{MAX_SENDERS}
-use Rattle.urb_names.specs.LabelsAndContents.{Label}
-use Rattle.urb_names.specs.RisingLists.{placed}
-use Rattle.urb_window.specs.Entries.{entry_lt, value_of, with_value}
-use Rattle.urb_window.specs.Row.{Row, pairs_of}
-use Rattle.urb_window.specs.internal.RowOperations.{IsInserted, IsReplaced, IsRow, number_lt, numbered}
-use Rattle.urb_window.specs.internal.RowOperations.{renumbered}
-use Rattle.urb_window.specs.RowEntries.{entries_from}
-use Rattle.urb_window.specs.internal.SenderRows.{no_row, row_at}
-use Rattle.urb_window.specs.internal.WindowInvariant.{HasRow, IsKept}
+use Rattle.urb_window.proofs.Common.{AllByRecursion, HasRow, IsInserted, IsRow, IsSome, Label, List}
+use Rattle.urb_window.proofs.Common.{MAX_SENDERS, None, Row, Some, ap, arith, cases_eq, cases_lt}
+use Rattle.urb_window.proofs.Common.{entries_from, entry_lt, false≢true, get_or, get_or_past, inl}
+use Rattle.urb_window.proofs.Common.{inr, is_some, length, length-set, no_row, number_lt, numbered}
+use Rattle.urb_window.proofs.Common.{pairs_of, placed, renumbered, row_at, slice_set, subst, sym}
+use Rattle.urb_window.proofs.Common.{value_of, with_value, ℕ, ◌+◌, ◌-◌, ◌<◌, ◌∙◌, ◌≡◌, ◌≤◌, ◌⊎◌}
+use Rattle.std.proofs.lemmas.List.{get_or-set_other, get_or-set_same, get_or_default}
+use Rattle.urb_window.specs.internal.RowOperations.{IsReplaced}
+use Rattle.urb_window.specs.internal.WindowInvariant.{IsKept}
 use Rattle.urb_window.specs.declared.windows.Windows.TheInside.{Inside}
 use Rattle.urb_window.proofs.RowChanges.{all_set, placed_rows, same_rows, valued_rows}
 use Rattle.urb_window.proofs.NameSearches.{value_rows}

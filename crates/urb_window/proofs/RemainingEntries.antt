@@ -1,21 +1,16 @@
 -- The entries of rows from one row on.
-use Rattle.std.proofs.Common.{◌≡◌, ℕ, zero, suc, ◌+◌, ◌-◌, ◌<◌, ◌≤◌, Bool, true, false, cond, not}
-use Rattle.std.proofs.Common.{nat_lt, List, [], ◌∷◌, ◌++◌, drop, find, length, get_or}
-use Rattle.std.proofs.Common.{Option, Some, None, option_map, refl, sym, ap, ap₂, ◌∙◌, subst, inl}
-use Rattle.std.proofs.Common.{inr, ◌⊎◌, arith}
-use Rattle.std.specs.Prelude.{slice_get}
+use Rattle.urb_window.proofs.Common.{AreOver, Bool, Label, List, None, Option, Row, Some, []}
+use Rattle.urb_window.proofs.Common.{and_parts, ap, ap₂, arith, cases_eq, cases_lt, cond}
+use Rattle.urb_window.proofs.Common.{cond-false, cond-true, drop, entries_from, false, find, get_or}
+use Rattle.urb_window.proofs.Common.{inl, inr, le-ltb, length, length-append, length-map, list_all}
+use Rattle.urb_window.proofs.Common.{name, name_lt, named, nat_lt, not, not-true, not_from_false}
+use Rattle.urb_window.proofs.Common.{option_map, pairs_of, refl, slice_get, subst, suc, sym, true}
+use Rattle.urb_window.proofs.Common.{zero, ℕ, ◌++◌, ◌+◌, ◌-◌, ◌<◌, ◌∙◌, ◌∷◌, ◌≡◌, ◌≤◌, ◌⊎◌}
 use Rattle.std.specs.Option.{option_or}
-use Rattle.std.specs.List.{list_all}
-use Rattle.std.proofs.lemmas.Bool.{and_parts, cases_eq, cases_lt, cond-false, cond-true, le-ltb}
-use Rattle.std.proofs.lemmas.Bool.{lt-ltb, not-true, not_from_false}
-use Rattle.std.proofs.lemmas.List.{drop_all, drop_more, length-append, length-map}
+use Rattle.std.proofs.lemmas.Bool.{lt-ltb}
+use Rattle.std.proofs.lemmas.List.{drop_all, drop_more}
 use Rattle.std.proofs.lemmas.List.Folds.{find-append}
 use Rattle.std.proofs.lemmas.Option.{slice_get-map}
-use Rattle.urb_names.specs.LabelsAndContents.{Label}
-use Rattle.urb_names.specs.Names.{name, name_lt}
-use Rattle.urb_window.specs.Row.{Row, pairs_of}
-use Rattle.urb_window.specs.internal.RowOperations.{AreOver}
-use Rattle.urb_window.specs.RowEntries.{entries_from, named}
 use Rattle.urb_window.proofs.EntryOrder.{all_entries, all_named, higher_sender_lt, lower_sender_lt}
 use Rattle.urb_window.proofs.EntryOrder.{same_sender_lt}
 use Rattle.urb_names.proofs.Places.{get_front}

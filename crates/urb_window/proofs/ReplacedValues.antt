@@ -1,14 +1,11 @@
 -- Replacing the value of a number that has one.
-use Rattle.std.proofs.Common.{◌≡◌, ℕ, suc, ◌+◌, ◌-◌, ◌<◌, ◌≤◌, Bool, true, false, cond}
-use Rattle.std.proofs.Common.{◌==◌, nat_lt, List, [], ◌∷◌, ◌++◌, length, get_or, slice_set, Option}
-use Rattle.std.proofs.Common.{Some, is_some, refl, sym, ap, ◌∙◌, subst, inl, inr, ◌⊎◌}
-use Rattle.std.proofs.Common.{arith, eq-eqb, ne_eqb}
-use Rattle.std.specs.List.{prefix_len}
-use Rattle.std.specs.Prelude.{IsSome}
-use Rattle.std.proofs.lemmas.Bool.{cases_Bool, cases_eq, cond-false, cond-true, eqb-true}
-use Rattle.std.proofs.lemmas.Bool.{false≢true, ltb-true}
-use Rattle.urb_window.specs.Row.{counted_from}
-use Rattle.urb_window.specs.internal.RowOperations.{AreOver, holds_at, numbered, renumbered}
+use Rattle.urb_window.proofs.Common.{AreOver, Bool, IsSome, List, Option, Some, [], ap, arith}
+use Rattle.urb_window.proofs.Common.{cases_Bool, cases_eq, cond, cond-false, cond-true}
+use Rattle.urb_window.proofs.Common.{counted_from, eq-eqb, false, false≢true, get_or, holds_at, inl}
+use Rattle.urb_window.proofs.Common.{inr, is_some, length, nat_lt, ne_eqb, numbered, prefix_len}
+use Rattle.urb_window.proofs.Common.{refl, renumbered, slice_set, subst, suc, sym, true, ℕ, ◌++◌}
+use Rattle.urb_window.proofs.Common.{◌+◌, ◌-◌, ◌<◌, ◌==◌, ◌∙◌, ◌∷◌, ◌≡◌, ◌≤◌, ◌⊎◌}
+use Rattle.std.proofs.lemmas.Bool.{eqb-true, ltb-true}
 use Rattle.urb_window.proofs.BinarySearches.{numbered_absent, numbered_found, one_more}
 use Rattle.urb_window.proofs.NumberedValues.{numbered_behind}
 

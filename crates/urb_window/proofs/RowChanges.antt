@@ -1,19 +1,12 @@
 -- The entries of rows after one row has changed.
-use Rattle.std.proofs.Common.{◌≡◌, ℕ, zero, suc, ◌+◌, ◌-◌, ◌<◌, ◌≤◌, Bool, true, false, cond, not}
-use Rattle.std.proofs.Common.{◌==◌, nat_lt, List, [], ◌∷◌, ◌++◌, length, get_or, slice_set, refl}
-use Rattle.std.proofs.Common.{sym, ap, ap₂, ◌∙◌, inl, inr, ◌⊎◌, arith, ne_eqb}
-use Rattle.std.specs.List.{AllByRecursion}
-use Rattle.std.proofs.lemmas.Bool.{and_left, cases_Bool, cases_eq, cond-false, not_from_false}
+use Rattle.urb_window.proofs.Common.{AllByRecursion, Bool, IsRow, Label, List, Row, [], and_left}
+use Rattle.urb_window.proofs.Common.{ap, ap₂, arith, cases_Bool, cases_eq, cond, cond-false}
+use Rattle.urb_window.proofs.Common.{entries_from, entry_lt, false, get_or, inl, inr, length, name}
+use Rattle.urb_window.proofs.Common.{named, nat_lt, ne_eqb, no_row, not, not_from_false, number_lt}
+use Rattle.urb_window.proofs.Common.{pairs_of, placed, placed_behind, placed_front, refl}
+use Rattle.urb_window.proofs.Common.{renumbered, same_name, slice_set, suc, sym, true, with_value}
+use Rattle.urb_window.proofs.Common.{zero, ℕ, ◌++◌, ◌+◌, ◌-◌, ◌<◌, ◌==◌, ◌∙◌, ◌∷◌, ◌≡◌, ◌≤◌, ◌⊎◌}
 use Rattle.std.proofs.lemmas.List.{map-append}
-use Rattle.urb_names.specs.LabelsAndContents.{Label}
-use Rattle.urb_names.specs.Names.{name, same_name}
-use Rattle.urb_names.specs.RisingLists.{placed}
-use Rattle.urb_names.proofs.ElementPlaces.{placed_behind, placed_front}
-use Rattle.urb_window.specs.Entries.{entry_lt, with_value}
-use Rattle.urb_window.specs.Row.{Row, pairs_of}
-use Rattle.urb_window.specs.internal.RowOperations.{IsRow, number_lt, renumbered}
-use Rattle.urb_window.specs.RowEntries.{entries_from, named}
-use Rattle.urb_window.specs.internal.SenderRows.{no_row}
 use Rattle.urb_window.proofs.NameSearches.{nothing_row, same_number}
 use Rattle.urb_window.proofs.ElementPlaces.{placed_after, placed_before}
 use Rattle.urb_window.proofs.EntryOrder.{all_entries, all_named, higher_sender_lt, lower_sender_lt}

@@ -1,6 +1,7 @@
 -- The stores at the end of a run.
 use Rattle.std.proofs.Common.{Bool, IfSome, IsTrue, List, None, Option, Some, [], arith, false}
-use Rattle.std.proofs.Common.{length, refl, subst, suc, sym, true, zero, ℕ, ◌&&◌, ◌+◌, ◌∙◌, ◌∷◌}
+use Rattle.std.proofs.Common.{if◌then◌else◌, length, option_map, refl, subst, suc, sym, true, zero, ℕ}
+use Rattle.std.proofs.Common.{◌+◌, ◌∙◌, ◌∷◌}
 use Rattle.std.proofs.Common.{◌≡◌, ◌≤◌}
 use Rattle.std.specs.Prelude.{slice_get}
 use Rattle.urb_names.specs.LabelsAndContents.{Limits}
@@ -87,19 +88,17 @@ ends_whole g opened n firsts lasts tallies closes number keeps =
     }
 
 -- the same, if the count of its events says so
-pub ends_whole_if : {S A : Type 0} (g : Ghosts S A) (opened : GroupView) (n : ℕ)
-    (firsts lasts : List S) (tallies : List TallyView) (ran known : Bool) (events : ℕ)
-    (count : Option ℕ) → IfSome count (λ it. (it ≡ events) × IsTrue (ran && known))
+pub ends_whole_if : {S A R : Type 0} (g : Ghosts S A) (opened : GroupView) (n : ℕ)
+    (firsts lasts : List S) (tallies : List TallyView) (run : Option R) (known : Bool) (events : ℕ)
+    (count : Option ℕ) → count ≡ option_map (λ (ended : R). events) (if known then run else None)
     → (IsTrue known → ClosesAt opened n tallies) → n ≡ opened.size.n
     → AllKeepUp g opened (numbers_from 1 (length firsts)) firsts lasts tallies
     → IfSome count (λ it. EndsWhole g opened firsts lasts)
-ends_whole_if g opened n firsts lasts tallies ran known events None is closes number keeps = tt
-ends_whole_if g opened n firsts lasts tallies ran known events (Some it) is closes number keeps =
-    ends_whole g opened n firsts lasts tallies (closes (second ran known is.1)) number keeps
-  where
-    second : (a b : Bool) → IsTrue (a && b) → IsTrue b
-    second true b h = h
-    second false b h = absurd (cc)
+ends_whole_if g opened n firsts lasts tallies run known events None is closes number keeps = tt
+ends_whole_if g opened n firsts lasts tallies run true events (Some it) is closes number keeps =
+    ends_whole g opened n firsts lasts tallies (closes refl) number keeps
+ends_whole_if g opened n firsts lasts tallies run false events (Some it) is closes number keeps =
+    absurd (cc)
 
 -- ---- what the next start takes
 

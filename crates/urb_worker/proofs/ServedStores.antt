@@ -1,11 +1,12 @@
 -- What workers do job after job, and stores in their order, as loops take them from one list and put
 -- them into another.
 use Rattle.std.proofs.Common.{◌≡◌, ◌∙◌, ◌++◌, IfSome, List, [], ◌∷◌, None, Ok, Err, Option, Result}
-use Rattle.std.proofs.Common.{reverse, ℕ, ◌+◌, zero, suc}
+use Rattle.std.proofs.Common.{arith, reverse, ℕ, ◌+◌, zero, suc}
 use Rattle.std.proofs.Common.{Some, append_assoc, ap, inl, inr, length, refl, subst, sym, map}
 use Rattle.std.proofs.Math.Logic.{∥∥₁_elim}
 use Rattle.std.proofs.Props.{props}
 use Rattle.std.proofs.lemmas.List.{reverse-append, map_push}
+use Rattle.urb_names.specs.Nodes.{nodes, numbers_from as nodes_from}
 use Rattle.urb_stable.specs.declared.stable.Stable.{Ghosts}
 use Rattle.urb_group.specs.GroupViews.{GroupView, Shows}
 use Rattle.urb_world.specs.World.{World}
@@ -147,6 +148,20 @@ module _ {S A : Type 0} (g : Ghosts S A) (opened : GroupView) where
   one_left_keeps_up h f ws w lasts new last tallies all tally so_far it is are =
       rw (is, are, map_push f ws w, map_push h ws w)
       (one_more_keeps_up (map h ws) (map f ws) lasts tallies (h w) (f w) last tally so_far it)
+
+-- the nodes from the first on are these numbers
+numbered : (first count : ℕ) → nodes_from first count ≡ numbers_from first count
+numbered first zero = refl
+numbered first (suc count) =
+    ap (λ ns. first ∷ ns) (numbered (suc first) count
+    ∙ ap (λ n. numbers_from n count) (next first))
+  where
+    next : (n : ℕ) → suc n ≡ n + 1
+    next n = omega arith
+
+-- the nodes 1 to n are the numbers from 1 on
+pub as_numbers : (count : ℕ) → nodes count ≡ numbers_from 1 count
+as_numbers count = numbered 1 count
 
 -- the element at the end of a list comes first in the reversed list
 pub reverse_push : {X Y : Type 0} (f : X → Y) (xs : List X) (x : X)

@@ -3,3 +3,4 @@ pub mod ServedStores
 pub mod WorkerOutputs
 pub mod Pulses
 pub mod OwnJobs
+pub mod Listenings

@@ -12,11 +12,11 @@
 //!
 //! ```text
 //! let (hub, tallies) = Hub::<K, L>::new(alloc, house, blank)?;   // a tally for each node
-//! let (queue, jobs) = crossbeam_channel::bounded(alloc, 64)?;     // for each node
+//! let (queues, jobs) = open_channels(alloc, nodes, 64)?;          // a channel for each node
 //! // on threads of their own:
 //! let setting = WorkerSetting::new(rt, alloc, &hub, &link, &OpenGate, &Silent);
 //! let mut outlets = setting.outlets_for_worker();
-//! let (tally, _) = serve_from(&setting, node, &mut store, &mut outlets, &jobs, tally); // to the end
+//! let (tally, _) = serve_from(&setting, node, &mut store, &mut outlets, jobs, tally); // to the end
 //! // at the end: set the stop, wake the receivers, drop the queues, join all
 //! let (house, is_known) = hub.close(tallies);
 //! ```
@@ -34,7 +34,9 @@
 
 mod acts;
 mod feeding;
+mod group_room;
 mod listeners;
+mod node_listeners;
 mod outlets;
 mod own_jobs;
 mod polling;

@@ -1,10 +1,13 @@
 //! The listeners of a group that runs: receivers, sessions of clients, and the timer.
 
+ghost use Rattle.std.specs.Prelude.{◌≡◌, ◌-◌, ◌+◌, ◌<◌, ◌≤◌, IfOk, IfSome, Some, length, option_map};
+ghost use Rattle.std.specs.Prelude.{slice_get, vec_len};
+ghost use Rattle.urb_names.specs.Nodes.{nodes};
 ghost use Rattle.urb_names.specs.declared.limits.TheConstants.{MAX_NODES};
-ghost use Rattle.std.specs.Prelude.{◌≡◌, ◌<◌, ◌≤◌, IfOk, IfSome, length, vec_len};
+ghost use Rattle.urb_worker.specs.internal.Listenings.{HasAll};
 
 use crate::GroupSetting;
-use crossbeam_channel::Sender;
+use crate::node_listeners::{Listening, NodeListener, start_listeners};
 use std::alloc::Global;
 use std::net::{Net, TcpListener, TcpStream};
 use std::sync::Wait;
@@ -12,14 +15,10 @@ use std::thread;
 use std::thread::{Scope, Threads};
 use std::time::Clock;
 use urb_desk::{
-    Acceptor, ClientLimits, Connections, NodeDesk, NodeService, ReaderPool, Refusals, TicketPlaces,
-    accept_clients,
+    ClientLimits, Connections, NodeDesk, NodeService, ReaderPool, Refusals, TicketPlaces,
 };
-use urb_link::{
-    ArrivalQueue, Door, Station, Stop, TickQueues, Ticket, Ticking, pass_rings, receive,
-    start_timer,
-};
-use urb_names::{NoMemory, NodeId};
+use urb_link::{NodeQueue, Station, Stop, TickQueues, Ticking, start_timer};
+use urb_names::NoMemory;
 use urb_show::{HouseName, LogReader, ReadPosition};
 use urb_turn::Reporter;
 
@@ -68,130 +67,113 @@ impl<K: HouseName> SessionRoom<K> {
     }
 }
 
-// A node, with what its listeners use.
-#[derive(Drop)]
-struct NodeListener<'a, K: HouseName, R: Wait + Clock> {
-    rt: &'a R,
-    alloc: Global,
-    stop: &'a Stop,
-    station: &'a Station,
-    queue: ArrivalQueue<'a, K>,
-    connections: &'a Connections,
-    refusals: &'a Refusals,
-    desk: NodeDesk<'a, K, R>,
-}
-
-// What the acceptors of a node share.
-#[derive(Drop)]
-struct Welcome<'a> {
-    alloc: Global,
-    stop: &'a Stop,
-    connections: &'a Connections,
-    refusals: &'a Refusals,
-}
-
-// Starts the thread that accepts a node's clients at a door, if there is such a door. Returns
-// whether it could.
-fn start_acceptor<'s, E, K: HouseName + Send + Sync, R: Wait + Clock + Sync>(
-    scope: &'s Scope<'s, E>,
-    rt: &'s R,
-    welcome: &Welcome<'s>,
-    door: Option<Door<'s>>,
-    desk: NodeDesk<'s, K, R>,
-) -> bool {
-    let Some(door) = door else {
-        return true;
+// The listeners of the queue's node, with its station, its connections and a desk. Those of node 1,
+// 2, .. are at the places 0, 1, ..
+fn listener_of<'s, K: HouseName, H: Reporter, R: Wait + Clock>(
+    setting: &GroupSetting<'s, H, R>,
+    room: &'s SessionRoom<K>,
+    stop: &'s Stop,
+    queue: &'s NodeQueue<K>,
+) -> NodeListener<'s, K, R>
+    requires node { (queue.now ≤ length setting.now.stations.now) × (queue.now ≤ length K.base) }
+    requires room { queue.now ≤ vec_len room.now.nodes }
+    ensures queue { result.queue.now ≡ queue.now }
+    ensures desk { result.desk.node ≡ queue.now }
+    ensures station { slice_get setting.now.stations.now (queue.now - 1)
+        ≡ Some result.station.now }
+    ensures connections { option_map (λ node. node.0)
+        (slice_get room.now.nodes.items (queue.now - 1)) ≡ Some result.connections.now }
+{
+    let (rt, alloc, node) = (setting.rt, setting.alloc, queue.node());
+    let place = usize::from(node.number()) - 1;
+    let (station, (connections, places)) = (&setting.stations[place], &room.nodes[place]);
+    let service = NodeService {
+        queue: queue.sender(),
+        places,
+        readers: &room.readers,
+        bell: &station.bell,
+        in_flight: &station.in_flight,
+        stop,
     };
-    let acceptor = Acceptor {
-        alloc: welcome.alloc,
-        stop: welcome.stop,
-        door,
-        connections: welcome.connections,
-        refusals: welcome.refusals,
-    };
-    scope
-        .spawn(move || accept_clients(scope, rt, acceptor, desk))
-        .is_ok()
-}
-
-// Starts the threads that take a node's datagrams, pass on its bell's rings and accept its clients.
-// Returns whether it could.
-fn start_node_threads<'s, E, K: HouseName + Send + Sync, R: Wait + Clock + Sync>(
-    scope: &'s Scope<'s, E>,
-    listener: NodeListener<'s, K, R>,
-) -> bool {
-    let NodeListener {
+    NodeListener {
         rt,
         alloc,
         stop,
         station,
         queue,
         connections,
-        refusals,
-        desk,
-    } = listener;
-    let receiver = move || receive(rt, alloc, stop, station, queue);
-    if scope.spawn(receiver).is_err() {
-        return false;
+        refusals: &room.refusals,
+        desk: NodeDesk::new(rt, alloc, node, service, room.start.copy()),
     }
-    let ringer = move || pass_rings(rt, stop, &station.bell);
-    if scope.spawn(ringer).is_err() {
-        return false;
+}
+
+/// The witness that the listeners of nodes 1 to `last` were started, each node's at its own station.
+#[derive(Drop)]
+pub(crate) struct AllListening {
+    last: u8,
+}
+
+impl AllListening {
+    // No node's listeners were started yet.
+    fn none() -> AllListening
+        ensures { result.last ≡ 0 }
+    {
+        AllListening { last: 0 }
     }
-    let welcome = Welcome {
-        alloc,
-        stop,
-        connections,
-        refusals,
-    };
-    let at_socket = desk.copy();
-    start_acceptor(scope, rt, &welcome, station.tcp_door(), desk)
-        && start_acceptor(scope, rt, &welcome, station.socket_door(), at_socket)
+
+    // Those of one node more were started: of the next node, at its station.
+    fn with(self, _stations: &[Station], _listening: &Listening<'_>) -> AllListening
+        requires room { self.last < MAX_NODES }
+        requires next { _listening.now.node ≡ self.last + 1 }
+        requires station { slice_get _stations.now self.last ≡ Some _listening.now.station.now }
+        ensures { result.last ≡ self.last + 1 }
+    {
+        AllListening {
+            last: self.last + 1,
+        }
+    }
+}
+
+/// The witness that a group's listeners and its timer were started. If it left the scope of their
+/// threads, they have also ended.
+#[derive(Drop)]
+pub(crate) struct GroupListening {
+    listening: AllListening,
+    ticking: Ticking,
 }
 
 // Starts the threads of all nodes and the timer. `None` if it could not.
+#[tactic(auto, using(urb_link::proofs::QueuesInOrder::at_place))]
 fn start_threads<'s, E, K: HouseName + Send + Sync, H: Reporter, R: Wait + Clock + Sync>(
     scope: &'s Scope<'s, E>,
     setting: &GroupSetting<'s, H, R>,
     room: &'s SessionRoom<K>,
     stop: &'s Stop,
-    queues: &'s [Sender<Ticket<K>>],
-) -> Option<Ticking>
+    queues: &'s [NodeQueue<K>],
+) -> Option<GroupListening>
     requires nodes { (length setting.now.stations.now ≤ length K.base)
         × (length K.base ≤ MAX_NODES) }
     requires room { (vec_len room.now.nodes ≡ length setting.now.stations.now)
         × (length queues.now ≡ length setting.now.stations.now) }
-    // The timer ticks at every node, as often as the setting says.
-    ensures ticks { IfSome result (λ it. (it.nodes ≡ length setting.now.stations.now)
-        × (it.millis ≡ setting.now.tick_millis)) }
+    requires order { queues.now ≡ nodes (length queues.now) }
+    // Every node has its listeners. The timer ticks at every node, as often as the setting says.
+    ensures all { IfSome result
+        (λ it. HasAll (length setting.now.stations.now) setting.now.tick_millis it) }
 {
-    let (rt, stations, tick_millis) = (setting.rt, setting.stations, setting.tick_millis);
-    for place in 0..stations.len() {
-        let node = NodeId::new(place as u8 + 1).unwrap();
-        let service = NodeService {
-            queue: &queues[place],
-            places: &room.nodes[place].1,
-            readers: &room.readers,
-            bell: &stations[place].bell,
-            in_flight: &stations[place].in_flight,
-            stop,
-        };
-        let listener = NodeListener {
-            rt,
-            alloc: setting.alloc,
-            stop,
-            station: &stations[place],
-            queue: ArrivalQueue::new(node, &queues[place]),
-            connections: &room.nodes[place].0,
-            refusals: &room.refusals,
-            desk: NodeDesk::new(rt, setting.alloc, node, service, room.start.copy()),
-        };
-        if !start_node_threads(scope, listener) {
+    let (rt, tick_millis) = (setting.rt, setting.tick_millis);
+    let mut listening = AllListening::none();
+    for place in 0..queues.len() {
+        let listener = listener_of(setting, room, stop, &queues[place]);
+        let Some(started) = start_listeners(scope, listener) else {
             return None;
-        }
+        };
+        listening = listening.with(setting.stations, &started);
     }
     let queues = TickQueues::of(queues).unwrap();
-    start_timer(scope, rt, stop, tick_millis, queues)
+    let Some(ticking) = start_timer(scope, rt, stop, tick_millis, queues) else {
+        return None;
+    };
+    Some(GroupListening { listening, ticking })
 }
 
 // Ends the waits of all threads, once the stop is set: those for datagrams, clients and entries.
@@ -213,28 +195,30 @@ fn run_threads<'a, K: HouseName + Send + Sync, H: Reporter + Sync, R, W: Watch>(
     setting: &GroupSetting<'a, H, R>,
     room: &'a SessionRoom<K>,
     stop: &'a Stop,
-    queues: &'a [Sender<Ticket<K>>],
+    queues: &'a [NodeQueue<K>],
     watch: &mut W,
-) -> Option<Ticking>
+) -> Option<GroupListening>
 where
     R: Threads + Wait + Clock + Sync + Net<Listener = TcpListener, Stream = TcpStream>,
     requires nodes { (length setting.now.stations.now ≤ length K.base)
         × (length K.base ≤ MAX_NODES) }
     requires room { (vec_len room.now.nodes ≡ length setting.now.stations.now)
         × (length queues.now ≡ length setting.now.stations.now) }
-    ensures ticks { IfSome result (λ it. (it.nodes ≡ length setting.now.stations.now)
-        × (it.millis ≡ setting.now.tick_millis)) }
+    requires order { queues.now ≡ nodes (length queues.now) }
+    ensures all { IfSome result
+        (λ it. HasAll (length setting.now.stations.now) setting.now.tick_millis it) }
 {
     thread::scope(
         thread::scope_env(),
         setting.rt,
-        move |scope| -> Option<Ticking>
+        move |scope| -> Option<GroupListening>
             requires { (length setting.now.stations.now ≤ length K.base)
                 × (length K.base ≤ MAX_NODES)
                 × (vec_len room.now.nodes ≡ length setting.now.stations.now)
-                × (length queues.now ≡ length setting.now.stations.now) }
-            ensures { IfSome result (λ it. (it.nodes ≡ length setting.entry.now.stations.now)
-                × (it.millis ≡ setting.entry.now.tick_millis)) }
+                × (length queues.now ≡ length setting.now.stations.now)
+                × (queues.now ≡ nodes (length queues.now)) }
+            ensures { IfSome result (λ it. HasAll (length setting.entry.now.stations.now)
+                setting.entry.now.tick_millis it) }
         {
             let started = start_threads(scope, setting, room, stop, queues);
             if started.is_some() {
@@ -251,8 +235,9 @@ where
 /// sessions share.
 #[derive(Drop)]
 pub(crate) struct ListenerInput<K: HouseName> {
-    pub(crate) queues: Vec<Sender<Ticket<K>>>,
+    pub(crate) queues: Vec<NodeQueue<K>>,
     pub(crate) readers: Vec<LogReader<K>>,
+    ghost order: { queues.items ≡ nodes (vec_len queues) },
 }
 
 /// Takes datagrams and clients at the stations, and sends ticks, until the watch ends. Then it
@@ -262,15 +247,15 @@ pub(crate) fn run_listeners<K: HouseName + Send + Sync, H: Reporter + Sync, R, W
     setting: &GroupSetting<'_, H, R>,
     input: ListenerInput<K>,
     watch: &mut W,
-) -> Option<Ticking>
+) -> Option<GroupListening>
 where
     R: Threads + Wait + Clock + Sync + Net<Listener = TcpListener, Stream = TcpStream>,
     requires nodes { (length setting.now.stations.now ≤ length K.base)
         × (length K.base ≤ MAX_NODES) }
     requires queues { vec_len input.queues ≡ length setting.now.stations.now }
-    // While they ran, every node had its ticks, as often as the setting says.
-    ensures ticks { IfSome result (λ it. (it.nodes ≡ length setting.now.stations.now)
-        × (it.millis ≡ setting.now.tick_millis)) }
+    // While they ran, every node had its listeners, and its ticks as often as the setting says.
+    ensures all { IfSome result
+        (λ it. HasAll (length setting.now.stations.now) setting.now.tick_millis it) }
 {
     let ListenerInput { queues, readers } = input;
     let (alloc, stations) = (setting.alloc, setting.stations);

@@ -2,109 +2,46 @@
 //!
 //! A running group has its workers, and the threads outside them.
 
-ghost use Rattle.std.specs.Prelude.{◌≡◌, ◌<◌, ◌≤◌, ◌*◌, ◌+◌, IfOk, IfSome, IsTrue, [], length};
-ghost use Rattle.std.specs.Prelude.{reverse, vec_len, vec_capacity};
+ghost use Rattle.std.specs.Prelude.{◌≡◌, ◌<◌, ◌≤◌, ◌*◌, ◌+◌, IfSome, IsTrue, None, [], length};
+ghost use Rattle.std.specs.Prelude.{if◌then◌else◌, option_map, reverse, vec_len, vec_capacity};
 ghost use Rattle.urb_names.specs.declared.limits.TheConstants.{MAX_NODES};
 ghost use Rattle.urb_show.specs.Houses.{IsNamed};
 ghost use Rattle.urb_turn.specs.Counting.{count_after, events_in};
 ghost use Rattle.urb_turn.specs.LastLoans.{AllBegin};
 ghost use Rattle.urb_worker.specs.ServedStores.{AreServed, EndsWhole, numbers_from};
+ghost use Rattle.urb_worker.specs.internal.Listenings.{HasAll};
 ghost use Rattle.urb_worker.specs.internal.ServedStores.{AllKeepUp, ClosesAt, each};
 ghost use Rattle.urb_show.specs.declared.opened_group.TheConstants.{READERS};
 
-use crate::listeners::{ListenerInput, run_listeners};
+use crate::group_room::{GroupRoom, reserve_room};
+use crate::listeners::{GroupListening, ListenerInput, run_listeners};
 use crate::polling::Polling;
 use crate::worker_threads::{Worker, WorkerInput, join_workers, start_workers};
 use crate::{Watch, WorkerSetting};
-use crossbeam_channel::{Receiver, Sender};
-use std::alloc::{AllocError, Global};
+use std::alloc::Global;
 use std::net::{Net, TcpListener, TcpStream};
 use std::sync::Wait;
 use std::sync::ledger::Blank;
 use std::thread;
 use std::thread::{Scope, Threads};
 use std::time::Clock;
-use urb_desk::{ClientLimits, SESSION_TICKETS};
-use urb_link::{Link, PacedLink, Station, Ticket, UdpLink};
-use urb_names::NodeId;
+use urb_desk::ClientLimits;
+use urb_link::{Link, NodeJobs, PacedLink, Station, UdpLink};
 use urb_show::{HouseName, LogReader, Opened};
 use urb_stable::Stable;
 use urb_turn::{Hub, HubName, OpenGate, Reporter, Tally};
-
-// The number of tickets that a worker's channel has room for.
-const ROOM: usize = 64;
-
-// At most half of the room is for sessions. The rest is for packets and ticks.
-const _: () = prove!(2 * SESSION_TICKETS as usize <= ROOM);
-
-/// What a group of `count` nodes needs besides its house. These are a channel for each worker, and
-/// lists with room for the workers' inputs and for what they leave. All of this is allocated before
-/// the house is opened.
-#[derive(Drop)]
-struct GroupRoom<K: HouseName, L: HubName, S: Stable<Alloc = Global>> {
-    queues: Vec<Sender<Ticket<K>>>,
-    jobs: Vec<Receiver<Ticket<K>>>,
-    inputs: Vec<WorkerInput<K, L, S>>,
-    workers: Vec<Worker<K, L, S>>,
-    stores: Vec<S>,
-    tallies: Vec<Tally<K, L>>,
-}
-
-// A channel for each of `count` workers.
-fn make_queues<K: HouseName>(
-    alloc: Global,
-    count: usize,
-) -> Result<(Vec<Sender<Ticket<K>>>, Vec<Receiver<Ticket<K>>>), AllocError>
-    ensures { IfOk result (λ made. (vec_len made.0 ≡ count) × (vec_len made.1 ≡ count)) }
-{
-    let mut queues = Vec::with_capacity(alloc, count)?;
-    let mut jobs = Vec::with_capacity(alloc, count)?;
-    for _i in 0..count {
-        let (queue, end) = crossbeam_channel::bounded(alloc, ROOM)?;
-        queues.push_reserved(queue);
-        jobs.push_reserved(end);
-    }
-    Ok((queues, jobs))
-}
-
-// The lists of `count` workers, all of them empty.
-fn reserve_room<K: HouseName, L: HubName, S: Stable<Alloc = Global> + Drop>(
-    alloc: Global,
-    count: usize,
-) -> Result<GroupRoom<K, L, S>, AllocError>
-    ensures queues { IfOk result
-        (λ made. (vec_len made.queues ≡ count) × (vec_len made.jobs ≡ count)) }
-    ensures inputs { IfOk result
-        (λ made. (vec_len made.inputs ≡ 0) × (count ≤ vec_capacity made.inputs)) }
-    ensures workers { IfOk result
-        (λ made. (vec_len made.workers ≡ 0) × (count ≤ vec_capacity made.workers)) }
-    ensures stores { IfOk result
-        (λ made. (vec_len made.stores ≡ 0) × (count ≤ vec_capacity made.stores)) }
-    ensures tallies { IfOk result
-        (λ made. (vec_len made.tallies ≡ 0) × (count ≤ vec_capacity made.tallies)) }
-{
-    let (queues, jobs) = make_queues(alloc, count)?;
-    Ok(GroupRoom {
-        queues,
-        jobs,
-        inputs: Vec::with_capacity(alloc, count)?,
-        workers: Vec::with_capacity(alloc, count)?,
-        stores: Vec::with_capacity(alloc, count)?,
-        tallies: Vec::with_capacity(alloc, count)?,
-    })
-}
 
 // Makes an input for each store, the last node's first.
 #[tactic(auto, using(crate::proofs::ServedStores::takes_up, crate::proofs::ServedStores::reverse_push, urb_turn::proofs::LastLoans::begin_but_last, urb_turn::proofs::LastLoans::begin_last))]
 fn make_inputs<K: HouseName, L: HubName, S: Stable<Alloc = Global> + Drop>(
     inputs: Vec<WorkerInput<K, L, S>>,
     stores: Vec<S>,
-    jobs: Vec<Receiver<Ticket<K>>>,
+    jobs: Vec<NodeJobs<K>>,
     tallies: Vec<Tally<K, L>>,
 ) -> Vec<WorkerInput<K, L, S>>
     requires room { (vec_len inputs ≡ 0) × (vec_len stores ≤ vec_capacity inputs) }
     requires one_each { (vec_len jobs ≡ vec_len stores) × (vec_len tallies ≡ vec_len stores) }
-    requires nodes { vec_len stores ≤ MAX_NODES }
+    requires nodes { jobs.items ≡ numbers_from 1 (vec_len stores) }
     requires begin { AllBegin tallies.items [] }
     ensures count { vec_len result ≡ vec_len stores }
     ensures stores { reverse (each result.items (λ input. input.store)) ≡ stores.items }
@@ -116,11 +53,11 @@ fn make_inputs<K: HouseName, L: HubName, S: Stable<Alloc = Global> + Drop>(
     let mut jobs = jobs;
     let mut tallies = tallies;
     while let Some(store) = stores.pop() {
-        let node = NodeId::new(stores.len() as u8 + 1).unwrap();
+        let jobs = jobs.pop().unwrap();
         inputs.push_reserved(WorkerInput {
-            node,
+            node: jobs.node(),
             store,
-            jobs: jobs.pop().unwrap(),
+            jobs,
             tally: tallies.pop().unwrap(),
         });
     }
@@ -160,11 +97,17 @@ fn open_hub<K: HouseName, L: HubName, R: Wait>(
     }
 }
 
-// The count of events of a run, if the run is whole.
-fn count_if(is_whole: bool, events: u64) -> Option<u64>
-    ensures { IfSome result (λ count. (count ≡ events) × IsTrue is_whole) }
+// The count of events of a run, if it had its listeners and the end of each last loan is known.
+fn count_if(run: Option<GroupListening>, is_known: bool, events: u64) -> Option<u64>
+    ensures { result ≡ option_map (λ ended. events) (if is_known then run else None) }
 {
-    if is_whole { Some(events) } else { None }
+    if !is_known {
+        return None;
+    }
+    match run {
+        Some(_) => Some(events),
+        None => None,
+    }
 }
 
 /// What a group runs with, besides the opened group.
@@ -197,7 +140,7 @@ struct WorkerGroup<K: HouseName, L: HubName, S: Stable<Alloc = Global>> {
 }
 
 // Runs the workers in a scope, and the listeners, until the watch ends. Returns all stores and
-// tallies, and whether all threads could be made.
+// tallies, and the witness of the listeners if all threads could be made.
 fn run_in_scope<
     's,
     E,
@@ -215,7 +158,7 @@ fn run_in_scope<
     group: WorkerGroup<K, L, S>,
     listening: ListenerInput<K>,
     watch: &mut W,
-) -> ((Vec<S>, Vec<Tally<K, L>>), bool)
+) -> ((Vec<S>, Vec<Tally<K, L>>), Option<GroupListening>)
 where
     R: Threads + Wait + Clock + Sync + Net<Listener = TcpListener, Stream = TcpStream>,
     requires nodes { (length outer.now.stations.now ≤ length K.base) × (length K.base ≤ MAX_NODES) }
@@ -229,6 +172,8 @@ where
         (reverse (each group.inputs.items (λ input. input.node)))
         (reverse (each group.inputs.items (λ input. input.store))) result.0.0.items
         result.0.1.items }
+    ensures all { IfSome result.1
+        (λ it. HasAll (length outer.now.stations.now) outer.now.tick_millis it) }
 {
     let WorkerGroup {
         inputs,
@@ -238,11 +183,11 @@ where
     } = group;
     let ListenerInput { queues, readers } = listening;
     let (workers, queues) = start_workers(scope, setting, inputs, workers, queues);
-    let whole = match queues {
-        Some(queues) => run_listeners(outer, ListenerInput { queues, readers }, watch).is_some(),
-        None => false,
+    let run = match queues {
+        Some(queues) => run_listeners(outer, ListenerInput { queues, readers }, watch),
+        None => None,
     };
-    (join_workers(setting.rt, workers, stores, tallies), whole)
+    (join_workers(setting.rt, workers, stores, tallies), run)
 }
 
 // Does the same in a scope of its own. The workers send no faster than the stations' receivers
@@ -260,7 +205,7 @@ fn run_worker_group<
     group: WorkerGroup<K, L, S>,
     listening: ListenerInput<K>,
     watch: &mut W,
-) -> ((Vec<S>, Vec<Tally<K, L>>), bool)
+) -> ((Vec<S>, Vec<Tally<K, L>>), Option<GroupListening>)
 where
     R: Threads + Wait + Clock + Sync + Net<Listener = TcpListener, Stream = TcpStream>,
     requires nodes { (length outer.now.stations.now ≤ length K.base) × (length K.base ≤ MAX_NODES) }
@@ -274,6 +219,8 @@ where
         (reverse (each group.inputs.items (λ input. input.node)))
         (reverse (each group.inputs.items (λ input. input.store))) result.0.0.items
         result.0.1.items }
+    ensures all { IfSome result.1
+        (λ it. HasAll (length outer.now.stations.now) outer.now.tick_millis it) }
 {
     let rt = outer.rt;
     let link = PacedLink::new(rt, outer.link, outer.stations);
@@ -292,7 +239,7 @@ where
     thread::scope(
         thread::scope_env(),
         rt,
-        move |scope| -> ((Vec<S>, Vec<Tally<K, L>>), bool)
+        move |scope| -> ((Vec<S>, Vec<Tally<K, L>>), Option<GroupListening>)
             requires { (length outer.now.stations.now ≤ length K.base)
                 × (length K.base ≤ MAX_NODES)
                 × (vec_len listening.queues ≡ length outer.now.stations.now) }
@@ -304,7 +251,9 @@ where
                 × AllKeepUp S.Stable K.origin
                 (reverse (each group.inputs.items (λ input. input.node)))
                 (reverse (each group.inputs.items (λ input. input.store))) result.0.0.items
-                result.0.1.items }
+                result.0.1.items
+                × IfSome result.1 (λ it. HasAll (length outer.entry.now.stations.now)
+                outer.entry.now.tick_millis it) }
         { run_in_scope(scope, setting, outer, group, listening, watch) },
     )
 }
@@ -369,7 +318,7 @@ where
         (λ events. EndsWhole S.Stable opened.group stores.items result.0.items) }
 {
     let (rt, alloc) = (setting.rt, setting.alloc);
-    let Ok(rooms) = reserve_room::<K, L, S>(alloc, setting.stations.len()) else {
+    let Some(rooms) = reserve_room::<K, L, S>(alloc, setting.stations.len()) else {
         drop(opened.close());
         return (stores, None);
     };
@@ -391,7 +340,7 @@ where
         tallies,
     };
     let listening = ListenerInput { queues, readers };
-    let ((stores, tallies), has_run) = run_worker_group(setting, &hub, group, listening, watch);
+    let ((stores, tallies), run) = run_worker_group(setting, &hub, group, listening, watch);
     let (events, is_known) = close_hub(rt, hub, tallies);
-    (stores, count_if(has_run & is_known, events))
+    (stores, count_if(run, is_known, events))
 }

@@ -7,14 +7,13 @@ ghost use Rattle.urb_worker.specs.internal.ServedStores.{AllKeepUp, AllThere, Ke
 ghost use Rattle.urb_worker.specs.internal.ServedStores.{in_either};
 
 use crate::{WorkerSetting, serve_from};
-use crossbeam_channel::{Receiver, Sender};
 use std::alloc::Global;
 use std::marker::{Model, PhantomData};
 use std::snapshot::Snapshot;
 use std::sync::Wait;
 use std::thread::{Promise, PromisedHandle, Scope, Threads};
 use std::time::Clock;
-use urb_link::{Link, Ticket};
+use urb_link::{Link, NodeJobs, NodeQueue};
 use urb_names::NodeId;
 use urb_show::HouseName;
 use urb_stable::Stable;
@@ -25,8 +24,10 @@ use urb_turn::{Gate, HubName, Reporter, Tally};
 pub(crate) struct WorkerInput<K: HouseName, L: HubName, S: Stable<Alloc = Global>> {
     pub(crate) node: NodeId,
     pub(crate) store: S,
-    pub(crate) jobs: Receiver<Ticket<K>>,
+    pub(crate) jobs: NodeJobs<K>,
     pub(crate) tally: Tally<K, L>,
+    // The tickets are those of the node's own channel.
+    ghost own: { jobs ≡ node },
     // It has had no loan since the opening.
     ghost fresh: { events_until tally.last ≡ [] },
 }
@@ -99,7 +100,8 @@ where
         tally,
     } = input;
     let mut outlets = setting.outlets_for_worker();
-    let (tally, _) = serve_from(setting, node, &mut store, &mut outlets, &jobs, tally);
+    let tickets = jobs.receiver();
+    let (tally, _) = serve_from(setting, node, &mut store, &mut outlets, tickets, tally);
     (store, tally)
 }
 
@@ -120,8 +122,8 @@ pub(crate) fn start_workers<
     setting: &'s WorkerSetting<'s, K, L, N, G, H, R>,
     inputs: Vec<WorkerInput<K, L, S>>,
     workers: Vec<Worker<K, L, S>>,
-    queues: Vec<Sender<Ticket<K>>>,
-) -> (Vec<Worker<K, L, S>>, Option<Vec<Sender<Ticket<K>>>>)
+    queues: Vec<NodeQueue<K>>,
+) -> (Vec<Worker<K, L, S>>, Option<Vec<NodeQueue<K>>>)
     requires { (vec_len workers ≡ 0) × (vec_len inputs ≤ vec_capacity workers) }
     ensures workers { vec_len result.0 ≡ vec_len inputs }
     // The workers have the stores of the inputs, and their nodes, in reverse order.
@@ -131,7 +133,7 @@ pub(crate) fn start_workers<
     ensures nodes { each result.0.items (λ worker.
         in_either worker (λ thread. thread.promise.node) (λ left. left.node))
         ≡ reverse (each inputs.items (λ input. input.node)) }
-    ensures queues { IfSome result.1 (λ kept. vec_len kept ≡ vec_len queues) }
+    ensures queues { IfSome result.1 (λ kept. kept.items ≡ queues.items) }
     // The queues are kept only if each worker has its thread. A worker without one would have to
     // wait for their tickets.
     ensures threads { IfSome result.1 (λ kept. AllThere result.0.items) }

@@ -9,6 +9,7 @@
 -- `can-deliver` (FullDelivery) and `survives` (StoppedWorlds).
 -- The proofs use lemmas of urb_names (names and pairs), urb_stable (records, logs and images that
 -- fit together) and urb_node (the cases of a submit, answers, and what a restart says).
+mod Common
 pub mod steps
 pub mod ticks
 pub mod safety

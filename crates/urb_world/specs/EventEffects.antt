@@ -1,4 +1,4 @@
--- At which node an event happens, and which events store nothing.
+-- Each event happens at one node, and most events store no record.
 use Rattle.std.specs.Prelude.{ℕ}
 use Rattle.urb_world.specs.Step.{Arrive, Commit, Crash, Event, Fail, Restart, Submit, Tick}
 

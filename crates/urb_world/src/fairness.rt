@@ -24,10 +24,11 @@ ghost use Rattle.urb_world.specs.World.{World, stored};
 ghost use Rattle.urb_node.specs.Part.{Ready};
 ghost use Rattle.urb_stable.specs.Records.{pend};
 
-/// Two rounds deliver, in whatever order their events come, and whatever else arrives or is refused
-/// among them. They start from any world of a run in which every node is ready or holds a record.
-/// The group must not be stranded. After the second round, every node has delivered everything that
-/// each sender's storage took. Nodes that were down must have come back before the first round.
+/// Two rounds deliver everything. The order of their events doesn't matter. More packets may arrive
+/// in between, and the group may refuse events. The rounds start from any world of a run in which
+/// every node is ready or holds a record. The group must not be stranded. After the second round,
+/// every node has delivered everything that each sender's storage took. Nodes that were down must
+/// have come back before the first round.
 pub fn two_fair_rounds_deliver()
     ensures { (w : World) (first second : List Event)
         → IsReached w
@@ -38,8 +39,8 @@ pub fn two_fair_rounds_deliver()
         → AllDelivered (after (after w first) second) }
 {}
 
-/// Two busy rounds deliver what was stored before them, whatever clients submit meanwhile. After the
-/// second round, each node that is ready has delivered all that each sender's storage had taken
+/// Two busy rounds deliver what was stored before them, whatever clients submit meanwhile. After
+/// the second round, each node that is ready has delivered all that each sender's storage had taken
 /// before the first. (A node is ready when it holds no record that isn't stored, as it does after
 /// each receipt.)
 pub fn two_busy_rounds_deliver()

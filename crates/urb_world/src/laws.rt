@@ -63,9 +63,10 @@ pub fn a_name_has_one_message()
     ensures { (w : World) → IsReached w → OneMessage w }
 {}
 
-/// For each sender, what one of two nodes has delivered is a prefix of what the other has
-/// delivered, at one moment or at two. This is uniform agreement and FIFO order of the logs
-/// (sections 3.7 and 3.9; Hadzilacos and Toueg 1994, uniform FIFO order).
+/// Take one sender, and two nodes at one moment or at two. One of the nodes has delivered a list of
+/// the sender's messages, and this list is a prefix of the other node's. This is uniform agreement
+/// and FIFO order of the logs (sections 3.7 and 3.9; Hadzilacos and Toueg 1994, uniform FIFO
+/// order).
 pub fn logs_agree()
     ensures { (old new : World) (events : List Event) (replies : List Reply) →
         IsReached old → Run old events replies new → AgreeInTime old new }

@@ -26,7 +26,7 @@ IsPrinted line place old said turn.Refused new =
     (number : ℕ) × (detail : ℕ) × (said ≡ Refused number detail)
     × Appends old new (explained_refusal number detail)
 
--- the lines of a page with so many entries aren't written, or it ends after the last place
+-- The lines of a page with `count` entries aren't written, or the page ends after the last place.
 abbrev pub IsPageUnwritten : ℕ → ℕ → Option (List ℕ) → StreamFault → Option (List ℕ) → Type 0
 IsPageUnwritten place count old why new =
     IsUnwritten why old new

@@ -46,7 +46,7 @@ fn connect_to<R: Net<Listener = TcpListener, Stream = TcpStream>>(
     }
 }
 
-// What came of connecting to the node at this address.
+// The stream to the node at this address, or why there is none.
 fn after_connect(
     at: NodeAddress<'_>,
     came: io::Result<LocalStream>,

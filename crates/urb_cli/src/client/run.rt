@@ -70,8 +70,8 @@ fn submit_short<A: Asker>(
 /// long isn't sent. After a fault the message may have been accepted. A client that isn't sure
 /// submits it again, under the same number.
 ///
-/// `NoMemory`: memory was refused. Other faults are the asker's. `BadReply` may also mean that the
-/// response was none to a submit.
+/// `NoMemory`: memory was refused. Other faults are the asker's. `BadReply` may also mean that a node
+/// doesn't answer a submit so.
 pub fn submit_by<A: Asker>(
     alloc: Global,
     asker: &mut A,
@@ -97,8 +97,8 @@ pub fn submit_by<A: Asker>(
 
 /// Reads entries at the node's address, and returns what the response shows.
 ///
-/// `NoMemory`: memory was refused. Other faults are the asker's. `BadReply` may also mean that the
-/// response was none to a read.
+/// `NoMemory`: memory was refused. Other faults are the asker's. `BadReply` may also mean that a node
+/// doesn't answer a read so.
 pub fn read_by<A: Asker>(
     alloc: Global,
     asker: &mut A,

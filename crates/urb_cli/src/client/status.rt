@@ -99,8 +99,8 @@ fn render_status_response(
 
 /// Asks for the state of the node at this address, and returns the line that shows it.
 ///
-/// `NoMemory`: memory was refused. Other faults are the asker's. `BadReply` may also mean that the
-/// response was none to this question.
+/// `NoMemory`: memory was refused. Other faults are the asker's. `BadReply` may also mean that a node
+/// doesn't answer this question so.
 pub fn status_by<A: Asker>(
     alloc: Global,
     asker: &mut A,

@@ -15,7 +15,7 @@ ghost use Rattle.urb_desk.specs.Desks.{gone, part_of};
 ghost use Rattle.urb_turn.specs.Loans.{events_until};
 ghost use Rattle.urb_turn.specs.internal.TurnExamples.{at_the_opening};
 ghost use Rattle.urb_desk.specs.internal.DeskExamples.{ask_crash, ask_status, client_desk};
-ghost use Rattle.urb_desk.specs.internal.DeskExamples.{desk_of, later_desk, new_desk};
+ghost use Rattle.urb_desk.specs.internal.DeskExamples.{desk_of, later_desk, lost_desk, new_desk};
 
 /// A read takes the lists of one moment, behind all that the desk had seen.
 pub fn looks_at_lists()
@@ -32,30 +32,33 @@ pub fn looks_at_lists()
 /// A turn gets the House behind all that the desk had seen, and the desk then has seen all until
 /// the turn's end.
 pub fn what_a_turn_lets_a_desk_see()
-    ensures nothing_without_loans { Sees [] true None [] → ⊥ }
-    ensures nothing_of_a_job_that_did_not_run { Sees [] false None [] }
-    ensures not_an_earlier_house { Sees (Tick 1 ∷ []) true (Some at_the_opening) [] → ⊥ }
-    ensures not_a_later_moment { Sees [] true (Some at_the_opening) (Tick 1 ∷ []) → ⊥ }
+    ensures nothing_without_loans { Sees [] None [] → ⊥ }
+    ensures all_until_its_end { Sees [] (Some at_the_opening) [] }
+    ensures not_an_earlier_house { Sees (Tick 1 ∷ []) (Some at_the_opening) [] → ⊥ }
+    ensures not_a_later_moment { Sees [] (Some at_the_opening) (Tick 1 ∷ []) → ⊥ }
 {}
 
-/// A desk that finds its worker or its House gone knows what it knew.
+/// A desk that finds its worker or its House gone has a witness of that, and knows what it knew.
 pub fn answers_of_a_desk()
-    ensures to_a_read_of_a_closed_house { AnswersAt shows_none new_desk (Read 1 1) gone new_desk }
+    ensures to_a_read_of_a_closed_house { AnswersAt shows_none new_desk (Read 1 1) gone lost_desk }
     ensures to_a_read_by_another_desk { AnswersAt shows_none new_desk (Read 1 1) gone (desk_of 2 [])
         → ⊥ }
-    ensures to_a_read_that_is_done { AnswersAt shows_none new_desk (Read 1 1) IsDone new_desk → ⊥ }
-    ensures to_a_wait_for_a_closed_house { AnswersAt shows_none new_desk (Wait 1 1 0) gone new_desk }
+    ensures to_a_read_that_is_done { AnswersAt shows_none new_desk (Read 1 1) IsDone lost_desk → ⊥ }
+    ensures to_a_wait_for_a_closed_house { AnswersAt shows_none new_desk (Wait 1 1 0) gone lost_desk }
     ensures to_a_wait_by_another_desk { AnswersAt shows_none new_desk (Wait 1 1 0) gone
         (desk_of 2 []) → ⊥ }
-    ensures to_a_wait_that_is_done { AnswersAt shows_none new_desk (Wait 1 1 0) IsDone new_desk → ⊥ }
-    ensures of_a_worker_that_is_gone { AnswersAt shows_none new_desk ask_status gone new_desk }
+    ensures to_a_wait_that_is_done { AnswersAt shows_none new_desk (Wait 1 1 0) IsDone lost_desk → ⊥ }
+    ensures of_a_worker_that_is_gone { AnswersAt shows_none new_desk ask_status gone lost_desk }
     ensures of_another_worker_that_is_gone { AnswersAt shows_none new_desk ask_status gone
         (desk_of 2 []) → ⊥ }
-    ensures of_no_worker { AnswersAt shows_none new_desk ask_status (Refused 99 0) new_desk → ⊥ }
-    ensures a_closed_house_is_not_done { Reads shows_none new_desk 1 1 IsDone new_desk → ⊥ }
-    ensures a_closed_house { Reads shows_none new_desk 1 1 gone new_desk }
-    ensures a_gone_worker { Works shows_none new_desk ask_status gone new_desk }
-    ensures a_worker_that_reads { Works shows_none new_desk (Read 1 1) IsDone new_desk → ⊥ }
+    ensures of_no_worker { AnswersAt shows_none new_desk ask_status (Refused 99 0) lost_desk → ⊥ }
+    ensures a_closed_house_is_not_done { Reads shows_none new_desk 1 1 IsDone lost_desk → ⊥ }
+    ensures a_closed_house { Reads shows_none new_desk 1 1 gone lost_desk }
+    ensures a_closed_house_without_a_witness { Reads shows_none new_desk 1 1 gone new_desk → ⊥ }
+    ensures a_gone_worker { Works shows_none new_desk ask_status gone lost_desk }
+    ensures a_gone_worker_without_a_witness { Works shows_none new_desk ask_status gone new_desk
+        → ⊥ }
+    ensures a_worker_that_reads { Works shows_none new_desk (Read 1 1) IsDone lost_desk → ⊥ }
 {}
 
 /// Refused memory leaves the desk as it was. A read may have taken the lists already.

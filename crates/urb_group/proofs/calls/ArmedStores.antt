@@ -1,25 +1,16 @@
 -- A store in memory that was armed, and a group of nodes that hold no draft.
-use Rattle.std.proofs.Common.{Bool, Err, List, None, Option, Result, Some, false, length, refl}
-use Rattle.std.proofs.Common.{true, zero, suc, ℕ, ◌-◌, ◌<◌, ◌^◌, ◌≡◌, ◌≤◌, ◌⊎◌, ◌∙◌, sym}
-use Rattle.std.proofs.Common.{[], ap, ⊎_elim, inl, inr}
-use Rattle.std.specs.Prelude.{replicate}
-use Rattle.std.proofs.lemmas.Bool.{cases_lt, cond_both}
+use Rattle.urb_group.proofs.Common.{Bool, Breaks, Entry, Err, Failure, GroupView, IsSound, IsTied}
+use Rattle.urb_group.proofs.Common.{Limits, List, None, Option, Placed, Result, Shows, Some}
+use Rattle.urb_group.proofs.Common.{StoreFault, [], after_failure, ap, cases_lt, cond_both}
+use Rattle.urb_group.proofs.Common.{draft_at, false, held_draft, held_in, inl, inr, is_node, length}
+use Rattle.urb_group.proofs.Common.{opened, refl, replicate, started, suc, sym, true, view_of}
+use Rattle.urb_group.proofs.Common.{without_memory, zero, ℕ, ⊎_elim, ◌-◌, ◌<◌, ◌^◌, ◌∙◌, ◌≡◌, ◌≤◌}
+use Rattle.urb_group.proofs.Common.{◌⊎◌}
 use Rattle.std.proofs.lemmas.List.{length-replicate}
 use Rattle.urb_group.proofs.shown.ShownWorlds.{sound-new}
-use Rattle.urb_group.specs.GroupStores.{held_draft, held_in}
-use Rattle.urb_group.specs.internal.ClusterTies.{IsTied, draft_at}
-use Rattle.urb_group.specs.ClusterCalls.{Breaks}
-use Rattle.urb_group.specs.GroupViews.{GroupView, IsSound, Shows, view_of}
-use Rattle.urb_world.specs.World.{opened, started}
-use Rattle.urb_names.specs.LabelsAndContents.{Limits}
-use Rattle.urb_names.specs.Nodes.{is_node}
 use Rattle.urb_node.specs.Part.{State}
-use Rattle.urb_stable.specs.Entries.{Entry}
-use Rattle.urb_stable.specs.MemoryStores.{Memory, after_failure, without_memory}
-use Rattle.urb_stable.specs.PlacedRecords.{Placed}
-use Rattle.urb_stable.specs.declared.memory.Failure.{Failure}
+use Rattle.urb_stable.specs.MemoryStores.{Memory}
 use Rattle.urb_stable.specs.declared.memory.Failure.TheVariants as failure
-use Rattle.urb_stable.specs.declared.stable.StoreFault.{StoreFault}
 use Rattle.urb_stable.specs.declared.stable.StoreFault.TheVariants as fault
 
 -- the effect of an armed store in memory, by cases

@@ -1,10 +1,7 @@
 -- New stores in memory have no record.
-use Rattle.std.proofs.Common.{List, ap, slice_index_or, subst, ◌≡◌}
-use Rattle.std.specs.List.{All}
-use Rattle.urb_group.specs.StoreQuestions.{IsBlank}
-use Rattle.urb_world.specs.MemoryStores.{in_memory}
-use Rattle.urb_stable.specs.MemoryStores.{Memory, empty_memory}
-use Rattle.urb_stable.specs.StableStorage.{IsContents}
+use Rattle.urb_group.proofs.Common.{All, IsBlank, IsContents, List, ap, empty_memory, in_memory}
+use Rattle.urb_group.proofs.Common.{slice_index_or, subst, ◌≡◌}
+use Rattle.urb_stable.specs.MemoryStores.{Memory}
 
 blank : {A : Type 0} (m : Memory) → m ≡ empty_memory → IsBlank (in_memory A) m
 blank m e =

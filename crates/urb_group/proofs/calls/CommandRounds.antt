@@ -1,23 +1,17 @@
 -- Commands count as what their events count as. So two rounds that are played deliver.
-use Rattle.std.proofs.Common.{Bool, List, [], ap, refl, subst, sym, ℕ, ⊎_elim, ◌++◌, ◌∙◌, ◌∷◌}
-use Rattle.std.proofs.Common.{◌≡◌}
+use Rattle.urb_group.proofs.Common.{AreEvents, At_end, Bool, By_event, By_none, Command, Event}
+use Rattle.urb_group.proofs.Common.{GroupView, IsEventOf, IsUnread, Limits, List, Runs, World, []}
+use Rattle.urb_group.proofs.Common.{ap, is_node, refl, subst, sym, ℕ, ⊎_elim, ◌++◌, ◌∙◌, ◌∷◌, ◌≡◌}
 use Rattle.urb_world.proofs.rounds.LastingCounts.{run-size}
 use Rattle.urb_world.proofs.rounds.FairRounds.{two-busy-rounds, two-rounds}
-use Rattle.urb_group.specs.Commands.{AreEvents, At_end, By_event, By_none, IsEventOf, IsUnread}
 use Rattle.urb_group.specs.PlayedRounds.{IsPlayedBusyRound, IsPlayedRound, act_of_command}
-use Rattle.urb_group.specs.PlayedCommands.{Runs}
 use Rattle.urb_world.specs.RecoveredWorlds.{AllDelivered, IsNotStranded}
 use Rattle.urb_world.specs.RecoveryPlans.{after}
 use Rattle.urb_world.specs.Rounds.{Act, AllUp, IsBusyRound, IsBusyRoundAmong, IsRound, IsRoundAmong}
 use Rattle.urb_world.specs.Rounds.{ReadyHaveDelivered, act_of, acts_by, acts_of, disturbance}
-use Rattle.urb_group.specs.GroupViews.{GroupView}
-use Rattle.urb_world.specs.Step.{Event, IsReached}
-use Rattle.urb_world.specs.World.{World}
-use Rattle.urb_group.specs.declared.command.Command.{Command}
-use Rattle.urb_group.specs.declared.command.Command.TheVariants as command
-use Rattle.urb_names.specs.LabelsAndContents.{Limits}
-use Rattle.urb_names.specs.Nodes.{is_node}
+use Rattle.urb_world.specs.Step.{IsReached}
 use Rattle.urb_node.specs.Replies.{Reply}
+use Rattle.urb_group.specs.declared.command.Command.TheVariants as command
 
 module _ {A : Type 0} where
   -- a command and its event

@@ -1,28 +1,18 @@
 -- What the calls of a group do to the drafts that its nodes hold.
-use Rattle.std.proofs.Common.{Err, List, None, Ok, Option, Result, Some, ap, arith, length, nat_lt}
-use Rattle.std.proofs.Common.{ltb-true, subst, suc, sym, true, ℕ, ◌-◌, ◌<◌, ◌∙◌, ◌≡◌, ◌≤◌, ◌⊎◌, inl}
-use Rattle.std.proofs.Common.{inr}
-use Rattle.std.specs.Prelude.{slice_set}
-use Rattle.std.proofs.lemmas.Bool.{and_parts, cond-true}
+use Rattle.urb_group.proofs.Common.{Carried, Drafted, Err, Event, GroupView, HoldsDraft, IsSound}
+use Rattle.urb_group.proofs.Common.{IsTied, Limits, List, None, Ok, Option, Placed, Reacts, Refusal}
+use Rattle.urb_group.proofs.Common.{Refused, Result, Same, Sent, Some, Steps, Taken, Takes, Tick}
+use Rattle.urb_group.proofs.Common.{WentDown, and_parts, ap, arith, cond-true, held_draft, held_in}
+use Rattle.urb_group.proofs.Common.{inl, inr, is_node, length, ltb-true, name_of, nat_lt, slice_set}
+use Rattle.urb_group.proofs.Common.{subst, suc, sym, true, view_of, ℕ, ◌-◌, ◌<◌, ◌∙◌, ◌≡◌, ◌≤◌, ◌⊎◌}
 use Rattle.urb_world.proofs.steps.DraftsInSteps.{event_node, step-at}
 use Rattle.urb_group.proofs.calls.HeldDrafts.{steps-calm, steps-size, tied-kept, tied-set}
-use Rattle.urb_group.specs.GroupCalls.{HoldsDraft, Steps, Takes, Ticks}
-use Rattle.urb_group.specs.GroupStores.{held_draft, held_in}
-use Rattle.urb_group.specs.internal.ClusterTies.{IsTied}
-use Rattle.urb_group.specs.ClusterCalls.{Reacts}
+use Rattle.urb_group.specs.GroupCalls.{Ticks}
 use Rattle.urb_group.specs.internal.CallReplies.{IsWithin, noted_in, told_of}
-use Rattle.urb_group.specs.GroupViews.{GroupView, IsSound, view_of}
-use Rattle.urb_world.specs.Step.{Event, Tick, step}
-use Rattle.urb_group.specs.declared.taken.Taken.{Taken}
-use Rattle.urb_group.specs.declared.taken.Taken.TheVariants as taken
-use Rattle.urb_names.specs.CarriedPackets.{Carried}
-use Rattle.urb_names.specs.LabelsAndContents.{Limits}
-use Rattle.urb_names.specs.Nodes.{is_node}
-use Rattle.urb_names.specs.declared.refusal.Refusal.{Refusal}
+use Rattle.urb_world.specs.Step.{step}
 use Rattle.urb_node.specs.Part.{State}
-use Rattle.urb_node.specs.Replies.{Drafted, Refused, Reply, Same, Sent, WentDown}
-use Rattle.urb_stable.specs.Entries.{name_of}
-use Rattle.urb_stable.specs.PlacedRecords.{Placed}
+use Rattle.urb_node.specs.Replies.{Reply}
+use Rattle.urb_group.specs.declared.taken.Taken.TheVariants as taken
 
 -- ---- a refusal leaves the places
 

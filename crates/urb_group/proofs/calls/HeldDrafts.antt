@@ -1,24 +1,18 @@
 -- What a step does to the drafts that the nodes of a group hold, and to the places for them.
-use Rattle.std.proofs.Common.{Bool, List, None, Option, ap, ap₂, arith, cond, eqb-true, eq-eqb}
-use Rattle.std.proofs.Common.{false, length, length-set, refl, subst, suc, sym, true, zero, ℕ, ◌-◌}
-use Rattle.std.proofs.Common.{◌<◌, ◌==◌, ◌∙◌, ◌≡◌, ◌≢◌, get_or-set_same, get_or-set_other}
-use Rattle.std.specs.Prelude.{slice_index_or, slice_set}
-use Rattle.std.proofs.lemmas.Bool.{cond_both}
+use Rattle.urb_group.proofs.Common.{Bool, Down, Drafted, Event, GroupView, Happens, IsSound, IsTied}
+use Rattle.urb_group.proofs.Common.{Limits, List, Node, None, Option, Placed, Ready, Refused, Same}
+use Rattle.urb_group.proofs.Common.{Sent, Shows, Steps, Storing, World, ap, ap₂, arith, cond}
+use Rattle.urb_group.proofs.Common.{cond_both, draft_at, eq-eqb, eqb-true, false, get_or-set_other}
+use Rattle.urb_group.proofs.Common.{get_or-set_same, held_draft, held_in, is_node, is_storing}
+use Rattle.urb_group.proofs.Common.{length, refl, slice_index_or, slice_set, step-elsewhere}
+use Rattle.urb_group.proofs.Common.{step-size, subst, suc, sym, true, zero, ℕ, ◌-◌, ◌<◌, ◌==◌, ◌∙◌}
+use Rattle.urb_group.proofs.Common.{◌≡◌, ◌≢◌}
+use Rattle.std.proofs.Common.{length-set}
 use Rattle.urb_group.proofs.shown.AgreeingWorlds.{sound-step}
-use Rattle.urb_world.proofs.steps.DraftsInSteps.{CalmAs, event_node, step-calm, step-elsewhere}
-use Rattle.urb_world.proofs.steps.DraftsInSteps.{step-size}
-use Rattle.urb_group.specs.GroupCalls.{Happens, Steps}
-use Rattle.urb_group.specs.GroupStores.{held_draft, held_in}
-use Rattle.urb_group.specs.internal.ClusterTies.{IsTied, draft_at}
-use Rattle.urb_group.specs.GroupViews.{GroupView, IsSound, Shows}
-use Rattle.urb_world.specs.Step.{Event, step}
-use Rattle.urb_world.specs.World.{World}
-use Rattle.urb_names.specs.LabelsAndContents.{Limits}
-use Rattle.urb_names.specs.Nodes.{is_node}
-use Rattle.urb_node.specs.Part.{Down, Node, Ready, State, Storing}
-use Rattle.urb_node.specs.Replies.{Drafted, Refused, Reply, Same, Sent}
-use Rattle.urb_node.specs.Steps.{is_storing}
-use Rattle.urb_stable.specs.PlacedRecords.{Placed}
+use Rattle.urb_world.proofs.steps.DraftsInSteps.{CalmAs, event_node, step-calm}
+use Rattle.urb_world.specs.Step.{step}
+use Rattle.urb_node.specs.Part.{State}
+use Rattle.urb_node.specs.Replies.{Reply}
 
 -- ---- the drafts that a group's nodes hold are those that a shown world's hold
 

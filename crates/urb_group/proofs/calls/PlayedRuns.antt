@@ -1,44 +1,31 @@
 -- Commands that were applied one after the other are a run of events.
-use Rattle.std.proofs.Common.{get_or, Bool, Err, List, None, Ok, Option, Result, Some, Vec, [], ap}
-use Rattle.std.proofs.Common.{ap₂, arith, false, length, map, refl, subst, sym, true, ℕ, ◌++◌, ◌+◌}
-use Rattle.std.proofs.Common.{◌∙◌, ◌∷◌, ◌≡◌, ◌⊎◌, ⊎_elim, inl, inr}
-use Rattle.std.specs.Prelude.{drop, slice_get, take, ◌<◌}
+use Rattle.urb_group.proofs.Common.{Applies, AreEvents, AreTruthful, At_end, Bool, By_event}
+use Rattle.urb_group.proofs.Common.{By_none, Clustered, Command, Commit, Entry, Err, Event, Fail}
+use Rattle.urb_group.proofs.Common.{Ghosts, GroupView, IsEventOf, IsKept, IsRefusedAs, IsSound}
+use Rattle.urb_group.proofs.Common.{IsUnread, List, NoMemory, None, Ok, Option, Placed, Plays}
+use Rattle.urb_group.proofs.Common.{Reacts, Refusal, Restart, RestartsBy, Result, Returns, Run}
+use Rattle.urb_group.proofs.Common.{Runs, Shows, Some, Steps, StoreFault, StoresHeld, Vec, World}
+use Rattle.urb_group.proofs.Common.{[], ap, ap₂, arith, drop, false, get_or, held_draft, inl, inr}
+use Rattle.urb_group.proofs.Common.{is_fallen, is_no_memory, kept-agree, kept-told, length, map}
+use Rattle.urb_group.proofs.Common.{one_message, packets_in, refl, reply_of, run, safe, slice_get}
+use Rattle.urb_group.proofs.Common.{slice_get_read, stored_as, subst, sym, take, true, ℕ, ⊎_elim}
+use Rattle.urb_group.proofs.Common.{◌++◌, ◌+◌, ◌<◌, ◌∙◌, ◌∷◌, ◌≡◌, ◌⊎◌}
 use Rattle.std.proofs.lemmas.List.{length-take-le, take-append-drop, take_more}
-use Rattle.std.proofs.lemmas.Option.{slice_get_read}
 use Rattle.urb_group.proofs.shown.AgreeingWorlds.{sound-kept}
 use Rattle.urb_group.proofs.calls.HeldDrafts.{steps-sound}
-use Rattle.urb_world.proofs.safety.RunsOfKeptWorlds.{kept-agree, kept-grow, kept-told}
+use Rattle.urb_world.proofs.safety.RunsOfKeptWorlds.{kept-grow}
 use Rattle.urb_world.proofs.safety.Refusals.{refused-stays}
-use Rattle.urb_world.proofs.safety.SafeWorlds.{one_message, safe}
 use Rattle.urb_group.proofs.calls.StoreCallEffects.{held-self}
 use Rattle.urb_group.proofs.calls.StoreAnswers.{commit-stored, fail-down, held-as}
-use Rattle.urb_group.specs.GroupCalls.{Steps}
-use Rattle.urb_group.specs.GroupStores.{Clustered, held_draft}
-use Rattle.urb_group.specs.ClusterCalls.{Applies, Reacts, RestartsBy, Returns, StoresHeld, is_fallen}
-use Rattle.urb_group.specs.ClusterCalls.{stored_as}
-use Rattle.urb_group.specs.Commands.{AreEvents, At_end, By_event, By_none, IsEventOf, IsUnread}
-use Rattle.urb_group.specs.Commands.{is_no_memory, reply_of}
-use Rattle.urb_world.specs.RunInvariant.{IsKept}
-use Rattle.urb_group.specs.PlayedCommands.{Follows, Plays, Runs, EndsEarly, told_in}
+use Rattle.urb_group.specs.PlayedCommands.{EndsEarly, Follows, told_in}
 use Rattle.urb_world.specs.PromisedWorlds.{IsPromised}
-use Rattle.urb_group.specs.GroupViews.{GroupView, IsSound, Shows}
-use Rattle.urb_world.specs.Step.{Commit, Event, Fail, Restart, Run, run, step}
-use Rattle.urb_world.specs.TruthfulPackets.{AreTruthful, ToldTruth}
-use Rattle.urb_world.specs.World.{World}
-use Rattle.urb_group.specs.declared.command.Command.{Command}
-use Rattle.urb_group.specs.declared.command.Command.TheVariants as command
+use Rattle.urb_world.specs.Step.{step}
+use Rattle.urb_world.specs.TruthfulPackets.{ToldTruth}
 use Rattle.urb_group.specs.declared.reply.Reply.{Reply}
+use Rattle.urb_group.specs.declared.command.Command.TheVariants as command
 use Rattle.urb_group.specs.declared.reply.Reply.TheVariants as reply
-use Rattle.urb_names.specs.declared.refusal.NoMemory.{NoMemory}
-use Rattle.urb_names.specs.declared.refusal.Refusal.{Refusal}
 use Rattle.urb_names.specs.declared.refusal.Refusal.TheVariants as refusal
-use Rattle.urb_node.specs.CallEffects.{IsRefusedAs}
 use Rattle.urb_node.specs.Replies as told
-use Rattle.urb_node.specs.Replies.{packets_in}
-use Rattle.urb_stable.specs.Entries.{Entry}
-use Rattle.urb_stable.specs.PlacedRecords.{Placed}
-use Rattle.urb_stable.specs.declared.stable.Stable.{Ghosts}
-use Rattle.urb_stable.specs.declared.stable.StoreFault.{StoreFault}
 
 -- ---- one event
 

@@ -1,32 +1,23 @@
 -- Why the store of a node is not asked, and what a store's answer leads to.
-use Rattle.std.proofs.Common.{Bool, Err, List, None, Ok, Option, Result, Some, ap, ap₂, cond}
-use Rattle.std.proofs.Common.{eq-eqb, false, refl, subst, suc, sym, true, ℕ, ◌&&◌, ◌==◌, ◌∙◌, ◌≡◌}
-use Rattle.std.proofs.Common.{◌⊎◌, IsOk, IsTrue, inl, inr}
-use Rattle.std.proofs.lemmas.Bool.{and_from, cond-false, cond-true}
-use Rattle.urb_group.specs.GroupCalls.{Answers, Commits, GoesDown, Happens, Steps}
-use Rattle.urb_group.specs.GroupStores.{held_draft, held_in}
-use Rattle.urb_group.specs.internal.CallReplies.{IsUnfallen, IsUnstored, unfallen_in, unstored_in}
-use Rattle.urb_group.specs.GroupViews.{GroupView, IsSound, Shows, view_of}
-use Rattle.urb_group.specs.ReportedStates.{state_of}
-use Rattle.urb_world.specs.Step.{Commit, Crash, Event, Fail, Restart, at_node, step, world_after}
-use Rattle.urb_world.specs.TruthfulPackets.{AreTruthful}
-use Rattle.urb_world.specs.World.{World, truthful}
-use Rattle.urb_names.specs.CarriedPackets.{Carried}
+use Rattle.urb_group.proofs.Common.{Answers, AreTruthful, Bool, Carried, Cause, Commit, Commits}
+use Rattle.urb_group.proofs.Common.{Crash, Done, Entry, Err, Event, Fail, GoesDown, GroupView}
+use Rattle.urb_group.proofs.Common.{Happens, IsOk, IsRefusedAs, IsSound, IsTrue, IsUnfallen}
+use Rattle.urb_group.proofs.Common.{IsUnstored, Limits, List, Node, None, Ok, Option, Placed}
+use Rattle.urb_group.proofs.Common.{Refusal, Refused, Restart, Result, Shows, Some, Steps, Stored}
+use Rattle.urb_group.proofs.Common.{WentDown, World, and_from, ap, ap₂, at_node, commits, cond}
+use Rattle.urb_group.proofs.Common.{cond-false, cond-true, eq-eqb, false, held_draft, held_in, inl}
+use Rattle.urb_group.proofs.Common.{inr, is_down, is_node, next_position, packets_in, refl}
+use Rattle.urb_group.proofs.Common.{same_record, state_of, subst, suc, sym, true, truthful, view_of}
+use Rattle.urb_group.proofs.Common.{world_after, ℕ, ◌&&◌, ◌==◌, ◌∙◌, ◌≡◌, ◌⊎◌}
+use Rattle.urb_group.specs.internal.CallReplies.{unfallen_in, unstored_in}
+use Rattle.urb_world.specs.Step.{step}
 use Rattle.urb_group.specs.declared.state.State.{State}
-use Rattle.urb_names.specs.LabelsAndContents.{Limits}
-use Rattle.urb_names.specs.Nodes.{is_node}
-use Rattle.urb_names.specs.declared.refusal.Refusal.{Refusal}
-use Rattle.urb_names.specs.declared.refusal.Refusal.TheVariants as refusal
 use Rattle.urb_node.proofs.RestartReplies.{same_record-same}
-use Rattle.urb_node.specs.CallEffects.{IsRefusedAs, MayGrow}
+use Rattle.urb_node.specs.CallEffects.{MayGrow}
+use Rattle.urb_node.specs.Replies.{Reply}
+use Rattle.urb_node.specs.Steps.{done, fails, goes_down, keeps_record, refuses, restarts}
+use Rattle.urb_names.specs.declared.refusal.Refusal.TheVariants as refusal
 use Rattle.urb_node.specs.Part as part
-use Rattle.urb_node.specs.Part.{Node}
-use Rattle.urb_node.specs.Replies.{Done, Refused, Reply, Stored, WentDown, packets_in}
-use Rattle.urb_node.specs.Steps.{commits, done, fails, goes_down, is_down, keeps_record}
-use Rattle.urb_node.specs.Steps.{next_position, refuses, restarts, same_record}
-use Rattle.urb_stable.specs.Entries.{Entry}
-use Rattle.urb_stable.specs.PlacedRecords.{Placed}
-use Rattle.urb_node.specs.declared.cause.Cause.{Cause}
 
 -- ---- replies by what the group holds
 

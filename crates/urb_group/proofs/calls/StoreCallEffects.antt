@@ -1,31 +1,20 @@
 -- One node's store was asked: the group, the other stores and the places for the drafts after it.
-use Rattle.std.proofs.Common.{Err, List, None, Ok, Option, Result, Some, arith, length, length-set}
-use Rattle.std.proofs.Common.{refl, subst, sym, true, ℕ, ◌-◌, ◌<◌, ◌∙◌, ◌≡◌, ◌≤◌, get_or}
-use Rattle.std.specs.Prelude.{Bool, slice_set}
-use Rattle.std.proofs.lemmas.Bool.{and_parts}
-use Rattle.std.proofs.lemmas.Option.{slice_get_read}
+use Rattle.urb_group.proofs.Common.{Bool, BreaksArmed, Clustered, Entry, Err, Event, Fail}
+use Rattle.urb_group.proofs.Common.{FailsHeld, Failure, Ghosts, GroupView, IsTied, IsUnfallen}
+use Rattle.urb_group.proofs.Common.{IsUnstored, List, None, Ok, Option, Placed, Refusal, Refused}
+use Rattle.urb_group.proofs.Common.{Restart, RestartsBy, Result, Returns, Some, Steps, StoreFault}
+use Rattle.urb_group.proofs.Common.{StoreMoves, StoresHeld, and_parts, arith, get_or, held_draft}
+use Rattle.urb_group.proofs.Common.{is_down, is_fallen, is_node, length, refl, slice_get_read}
+use Rattle.urb_group.proofs.Common.{slice_set, stored_as, subst, sym, true, view_of, ℕ, ◌-◌, ◌<◌}
+use Rattle.urb_group.proofs.Common.{◌∙◌, ◌≡◌, ◌≤◌}
+use Rattle.std.proofs.Common.{length-set}
 use Rattle.urb_world.proofs.steps.DraftsInSteps.{event_node}
 use Rattle.urb_group.proofs.calls.DraftsInCalls.{node-bounds, reacts-tied, refused-tied}
 use Rattle.urb_group.proofs.calls.HeldDrafts.{tied-set}
 use Rattle.urb_group.proofs.calls.StoreAnswers.{held-as}
-use Rattle.urb_group.specs.GroupCalls.{Steps}
-use Rattle.urb_group.specs.GroupStores.{Clustered, held_draft}
-use Rattle.urb_group.specs.internal.ClusterTies.{IsTied}
-use Rattle.urb_group.specs.ClusterCalls.{BreaksArmed, FailsHeld, Reads, RestartsBy, Returns, StoreMoves}
-use Rattle.urb_group.specs.ClusterCalls.{Stores, StoresHeld, is_fallen, stored_as}
-use Rattle.urb_group.specs.internal.CallReplies.{IsUnfallen, IsUnstored}
-use Rattle.urb_group.specs.GroupViews.{GroupView, view_of}
-use Rattle.urb_world.specs.Step.{Event, Fail, Restart}
-use Rattle.urb_names.specs.Nodes.{is_node}
-use Rattle.urb_names.specs.declared.refusal.Refusal.{Refusal}
-use Rattle.urb_node.specs.Replies.{Refused, Reply}
-use Rattle.urb_node.specs.Steps.{is_down}
-use Rattle.urb_stable.specs.Entries.{Entry}
+use Rattle.urb_group.specs.ClusterCalls.{Reads, Stores}
+use Rattle.urb_node.specs.Replies.{Reply}
 use Rattle.urb_stable.specs.MemoryStores.{Memory}
-use Rattle.urb_stable.specs.PlacedRecords.{Placed}
-use Rattle.urb_stable.specs.declared.memory.Failure.{Failure}
-use Rattle.urb_stable.specs.declared.stable.Stable.{Ghosts}
-use Rattle.urb_stable.specs.declared.stable.StoreFault.{StoreFault}
 
 -- a store that was lent belongs to its place
 store-moves : {S : Type 0} (xs : List S) (p q : ℕ) (before after : S) → q ≡ p → q - 1 < length xs

@@ -1,18 +1,13 @@
 -- What a group needs to open from images. Images without a misfit fit, and each keeps the rules
 -- about itself. A group whose nodes show their images shows the opened world.
-use Rattle.std.proofs.Common.{List, None, Some, [], arith, length, refl, slice_index_or, subst, suc}
-use Rattle.std.proofs.Common.{sym, zero, ℕ, ⊎_elim, ◌<◌, ◌∷◌, ◌≡◌, ◌≤◌, ◌⊎◌}
-use Rattle.std.proofs.lemmas.Bool.{cases_lt}
+use Rattle.urb_group.proofs.Common.{AreImages, Entry, Fits, GroupView, KeepsOwn, Limits, List}
+use Rattle.urb_group.proofs.Common.{NodeView, None, Shows, ShowsNode, Some, [], arith, cases_lt}
+use Rattle.urb_group.proofs.Common.{first_misfit, length, no_view, nothing-shows, opened}
+use Rattle.urb_group.proofs.Common.{opened_node, refl, slice_index_or, subst, suc, sym, view_of}
+use Rattle.urb_group.proofs.Common.{zero, ℕ, ⊎_elim, ◌<◌, ◌∷◌, ◌≡◌, ◌≤◌, ◌⊎◌}
 use Rattle.urb_group.proofs.shown.SoundConditions.{fitting-own}
-use Rattle.urb_group.specs.GroupViews.{GroupView, Shows, view_of}
-use Rattle.urb_world.specs.World.{AreImages, opened}
-use Rattle.urb_names.specs.LabelsAndContents.{Limits}
 use Rattle.urb_world.proofs.steps.Runs.{past_end}
-use Rattle.urb_node.proofs.Openings.{nothing-shows}
-use Rattle.urb_node.specs.Part.{opened_node}
-use Rattle.urb_node.specs.NodeViews.{NodeView, ShowsNode, no_view}
-use Rattle.urb_stable.specs.Entries.{Entry}
-use Rattle.urb_stable.specs.Fitting.{Fits, KeepsOwn, first_misfit, first_of_all, misfits}
+use Rattle.urb_stable.specs.Fitting.{first_of_all, misfits}
 use Rattle.urb_stable.specs.Images.{image_of}
 use Rattle.urb_stable.specs.declared.fitting.Misfit.{Misfit}
 

@@ -1,31 +1,20 @@
 -- What each call of a group says, once one of its nodes has moved.
-use Rattle.std.proofs.Common.{Err, List, Ok, Result, Some, ap, set, subst, suc, sym, ℕ, ◌∙◌, ◌≡◌}
-use Rattle.std.specs.Prelude.{slice_get}
-use Rattle.urb_names.specs.CarriedPackets.{Carried}
-use Rattle.urb_names.specs.LabelsAndContents.{Content, Limits}
-use Rattle.urb_names.specs.declared.refusal.Refusal.{Refusal}
-use Rattle.urb_stable.specs.Entries.{Entry}
-use Rattle.urb_stable.specs.PlacedRecords.{Placed}
-use Rattle.urb_node.specs.Part.{Node}
-use Rattle.urb_node.specs.Replies.{Done, Same, Sent, Stored, Up, WentDown}
-use Rattle.urb_node.specs.Steps.{submits}
-use Rattle.urb_group.specs.GroupCalls.{ComesUp, Commits, GoesDown, HoldsDraft, Takes, Ticks}
-use Rattle.urb_group.specs.internal.PlaceCalls.{CommitsAt, CrashesAt, FailsAt, HandsBack, HoldsAt}
-use Rattle.urb_group.specs.internal.PlaceCalls.{Leads, LeadsAt, Outcomes, RestartsAt, SubmitsAt}
-use Rattle.urb_group.specs.internal.PlaceCalls.{CallResult, TicksAt, commits_as, crashes_as}
-use Rattle.urb_group.specs.internal.PlaceCalls.{fails_as}
+use Rattle.urb_group.proofs.Common.{CallResult, Carried, Commit, Commits, CommitsAt, Content, Crash}
+use Rattle.urb_group.proofs.Common.{CrashesAt, Done, Entry, Err, Event, Fail, FailsAt, GoesDown}
+use Rattle.urb_group.proofs.Common.{HoldsAt, HoldsDraft, IsGroup, Leads, LeadsAt, Limits, List}
+use Rattle.urb_group.proofs.Common.{Node, Ok, Outcomes, Placed, Refusal, Restart, RestartsAt}
+use Rattle.urb_group.proofs.Common.{Result, Same, Sent, Shows, ShowsAt, Some, Stored, Submit}
+use Rattle.urb_group.proofs.Common.{SubmitsAt, Taken, Takes, Tick, TicksAt, Up, WentDown, World, ap}
+use Rattle.urb_group.proofs.Common.{at_node, memory_in, set, shown, slice_get, step-outcome}
+use Rattle.urb_group.proofs.Common.{submits, subst, suc, sym, told_taken, ℕ, ◌∙◌, ◌≡◌}
+use Rattle.urb_group.specs.GroupCalls.{ComesUp, Ticks}
+use Rattle.urb_group.specs.internal.PlaceCalls.{HandsBack, commits_as, crashes_as, fails_as}
 use Rattle.urb_group.specs.internal.PlaceCalls.{restarts_as, ticks_as, told_down, told_sent}
-use Rattle.urb_group.specs.internal.PlaceCalls.{told_stored, told_taken, told_up}
-use Rattle.urb_group.specs.PlaceViews.{memory_in, shown}
-use Rattle.urb_group.specs.internal.PlaceInvariant.{IsGroup, ShowsAt}
-use Rattle.urb_group.specs.GroupViews.{Shows}
-use Rattle.urb_world.specs.Step.{Commit, Crash, Event, Fail, Restart, Submit, Tick, at_node, step}
-use Rattle.urb_world.specs.World.{World}
+use Rattle.urb_group.specs.internal.PlaceCalls.{told_stored, told_up}
+use Rattle.urb_world.specs.Step.{step}
 use Rattle.urb_group.specs.declared.node_moves.Node.{Node as Place}
-use Rattle.urb_group.specs.declared.taken.Taken.{Taken}
-use Rattle.urb_group.specs.declared.taken.Taken.TheVariants as taken
 use Rattle.urb_group.proofs.shown.NodeMoves.{StepsTo, holds_draft, lifted, place_shows, still_group}
-use Rattle.urb_world.proofs.steps.StepCases.{step-outcome}
+use Rattle.urb_group.specs.declared.taken.Taken.TheVariants as taken
 
 -- A node moved, and is in its place again.
 module _ {A : Type 0} {size : Limits} {places new : List (Place A)}

@@ -1,19 +1,13 @@
 -- The places of a new group show the new world.
-use Rattle.std.proofs.Common.{IsSome, List, None, Option, Some, SomeIff, [], ap, length, map, refl}
-use Rattle.std.proofs.Common.{replicate, subst, suc, sym, zero, ℕ, ⊎_elim, ◌++◌, ◌∙◌, ◌∷◌, ◌≡◌}
-use Rattle.std.specs.Prelude.{slice_get}
-use Rattle.urb_names.specs.LabelsAndContents.{Limits}
-use Rattle.urb_node.specs.NodeViews.{NodeView, no_view}
-use Rattle.urb_node.specs.NodeMemories.{Memory, new_memory}
-use Rattle.urb_group.specs.PlaceViews.{shown, view_at}
-use Rattle.urb_group.specs.internal.PlaceInvariant.{IsGroup, IsNumbered}
-use Rattle.urb_group.specs.GroupViews.{Shows}
-use Rattle.urb_world.specs.World.{started}
+use Rattle.urb_group.proofs.Common.{IsGroup, IsNumbered, IsSome, Limits, List, NodeView, None}
+use Rattle.urb_group.proofs.Common.{Option, Shows, Some, SomeIff, [], ap, length, map, new_memory}
+use Rattle.urb_group.proofs.Common.{no_view, one_longer, read_more, refl, replicate, shown}
+use Rattle.urb_group.proofs.Common.{slice_get, started, subst, suc, sym, view_at, zero, ℕ, ⊎_elim}
+use Rattle.urb_group.proofs.Common.{◌++◌, ◌∙◌, ◌∷◌, ◌≡◌}
+use Rattle.urb_node.specs.NodeMemories.{Memory}
 use Rattle.urb_group.specs.declared.node_moves.Node.{Node as Place}
-use Rattle.urb_group.specs.declared.node_moves.Node.TheVariants as place
 use Rattle.urb_group.proofs.shown.ShownWorlds.{shows-new, sound-new}
-use Rattle.urb_stable.proofs.IndexGrowth.{read_more}
-use Rattle.urb_names.proofs.Places.{one_longer}
+use Rattle.urb_group.specs.declared.node_moves.Node.TheVariants as place
 
 -- the places of the nodes 1 to k, which have stored nothing
 abbrev pub first_places : {A : Type 0} → Limits → ℕ → List (Place A)

@@ -1,26 +1,16 @@
 -- The places of a group that is opened from images, one node after the other.
-use Rattle.std.proofs.Common.{List, None, Ok, Some, [], ap, append-nil, append_assoc, arith, inl}
-use Rattle.std.proofs.Common.{inr, length, map, refl}
-use Rattle.std.proofs.Common.{subst, suc, sym, ℕ, ◌++◌, ◌<◌, ◌∙◌, ◌∷◌, ◌≡◌, ◌≤◌, ◌⊎◌}
-use Rattle.std.specs.Prelude.{slice_get, slice_index_or}
-use Rattle.std.proofs.lemmas.List.{length-map}
-use Rattle.urb_names.specs.LabelsAndContents.{Limits}
-use Rattle.urb_names.proofs.Places.{get_some, one_longer}
-use Rattle.urb_node.specs.Part.{opened_node}
-use Rattle.urb_node.specs.NodeViews.{NodeView, ShowsNode, no_view}
-use Rattle.urb_node.specs.NodeMemories.{Memory, ShowsReady}
-use Rattle.urb_stable.specs.Entries.{Entry}
-use Rattle.urb_stable.specs.Fitting.{KeepsOwn, first_misfit}
+use Rattle.urb_group.proofs.Common.{AreImages, Entry, IsGroup, IsNumbered, KeepsOwn, Limits, List}
+use Rattle.urb_group.proofs.Common.{NodeView, None, Ok, Opens, Shows, ShowsAt, ShowsNode}
+use Rattle.urb_group.proofs.Common.{ShowsReady, Some, [], ap, append-nil, append_assoc, arith}
+use Rattle.urb_group.proofs.Common.{first_misfit, get_some, inl, inr, length, length-map, map}
+use Rattle.urb_group.proofs.Common.{memory_in, no_view, one_longer, opened, opened_node, read_more}
+use Rattle.urb_group.proofs.Common.{refl, shown, slice_get, slice_index_or, subst, suc, sym}
+use Rattle.urb_group.proofs.Common.{view_at, ℕ, ◌++◌, ◌<◌, ◌∙◌, ◌∷◌, ◌≡◌, ◌≤◌, ◌⊎◌}
+use Rattle.urb_node.specs.NodeMemories.{Memory}
 use Rattle.urb_stable.specs.Images.{image_of}
-use Rattle.urb_stable.proofs.IndexGrowth.{read_more}
 use Rattle.urb_group.proofs.moves.FittingImages.{no_misfit-fits, opened-own, opened-shows}
 use Rattle.urb_group.proofs.shown.ReplacedElements.{read_mapped}
 use Rattle.urb_group.proofs.shown.ShownWorlds.{sound-opened}
-use Rattle.urb_group.specs.GroupCalls.{Opens}
-use Rattle.urb_group.specs.PlaceViews.{memory_in, shown, view_at}
-use Rattle.urb_group.specs.internal.PlaceInvariant.{IsGroup, IsNumbered, ShowsAt}
-use Rattle.urb_group.specs.GroupViews.{Shows}
-use Rattle.urb_world.specs.World.{AreImages, opened}
 use Rattle.urb_group.specs.declared.node_moves.Node.{Node as Place}
 use Rattle.urb_group.specs.declared.node_moves.Node.TheVariants as place
 

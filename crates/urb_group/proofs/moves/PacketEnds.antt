@@ -1,9 +1,7 @@
 -- The places of a packet's source and of the node that it is for.
-use Rattle.std.proofs.Common.{ap, eq-eqb, false, subst, suc, sym, true, ℕ, ◌&&◌, ◌<◌, ◌==◌, ◌≡◌}
-use Rattle.std.proofs.lemmas.Bool.{and_from, and_right}
-use Rattle.urb_names.specs.CarriedPackets.{Carried}
-use Rattle.urb_names.specs.Nodes.{is_node}
-use Rattle.urb_group.specs.internal.PacketTargets.{AreEnds, is_for_node}
+use Rattle.urb_group.proofs.Common.{AreEnds, Carried, and_from, and_right, ap, eq-eqb, false}
+use Rattle.urb_group.proofs.Common.{is_for_node, is_node, subst, suc, sym, true, ℕ, ◌&&◌, ◌<◌, ◌==◌}
+use Rattle.urb_group.proofs.Common.{◌≡◌}
 use Rattle.urb_group.proofs.shown.ShownWorlds.{is-node, no-node}
 
 -- a packet with another target is not for the node

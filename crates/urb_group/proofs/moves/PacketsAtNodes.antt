@@ -1,41 +1,30 @@
 -- A packet that comes to a node of a group: whether it is truthful, and what it leads to.
-use Rattle.std.proofs.Common.{Bool, Err, List, MatchBool, None, Ok, Result, Some, ap, cond, false}
-use Rattle.std.proofs.Common.{map, not, refl, set, slice_index_or, subst, suc, sym, true, ℕ}
-use Rattle.std.proofs.Common.{◌&&◌, ◌||◌, ◌∙◌, ◌≡◌, ◌≤◌, ◌<◌, arith}
-use Rattle.std.proofs.lemmas.Bool.{and_parts, cond-true}
-use Rattle.std.specs.Prelude.{slice_get}
-use Rattle.urb_names.proofs.FoundPairs.{has_pair-found}
-use Rattle.urb_names.specs.CarriedPackets.{Carried, says_certified}
-use Rattle.urb_names.specs.Names.{has_name}
-use Rattle.urb_names.specs.LabelsAndContents.{Content, Label, Limits}
-use Rattle.urb_names.specs.Nodes.{is_node}
-use Rattle.urb_names.specs.Pairs.{has_pair}
+use Rattle.urb_group.proofs.Common.{AreEnds, Arrive, ArrivesAt, Bool, Carried, Content, Err}
+use Rattle.urb_group.proofs.Common.{FindsMessage, GroupView, IsGroup, IsRefused, Label, Limits}
+use Rattle.urb_group.proofs.Common.{List, MayArrive, NodeView, None, Ok, Refusal, Refused, Result}
+use Rattle.urb_group.proofs.Common.{Shows, ShowsAt, Some, Taken, Takes, World, and_parts, ap, arith}
+use Rattle.urb_group.proofs.Common.{arrives_as, at_node, cert, cond, cond-true, false, has_name}
+use Rattle.urb_group.proofs.Common.{has_pair, has_pair-found, is_for_node, is_node, map, memory_in}
+use Rattle.urb_group.proofs.Common.{no_view, not, pend, refl, set, shown, slice_get, slice_index_or}
+use Rattle.urb_group.proofs.Common.{stored, subst, suc, sym, true, truthful, view_at, view_of, ℕ}
+use Rattle.urb_group.proofs.Common.{◌&&◌, ◌<◌, ◌||◌, ◌∙◌, ◌≡◌, ◌≤◌}
+use Rattle.std.proofs.Common.{MatchBool}
+use Rattle.urb_names.specs.CarriedPackets.{says_certified}
 use Rattle.urb_names.specs.declared.refusal.PacketFault.{PacketFault}
-use Rattle.urb_names.specs.declared.refusal.Refusal.{Refusal}
-use Rattle.urb_names.specs.declared.refusal.Refusal.TheVariants as refusal
 use Rattle.urb_stable.proofs.OwnRules.{own-unique}
-use Rattle.urb_stable.specs.Records.{cert, pend}
-use Rattle.urb_node.specs.CallEffects.{FindsMessage}
-use Rattle.urb_node.specs.RecordAdmission.{MayArrive}
-use Rattle.urb_node.specs.Replies.{Refused, Reply}
-use Rattle.urb_node.specs.NodeViews.{NodeView, no_view}
-use Rattle.urb_group.specs.GroupCalls.{IsRefused, Takes}
-use Rattle.urb_group.specs.internal.PlaceCalls.{ArrivesAt, MayReach, arrives_as}
-use Rattle.urb_group.specs.PlaceViews.{memory_in, shown, view_at}
-use Rattle.urb_group.specs.internal.PlaceInvariant.{IsGroup, ShowsAt}
-use Rattle.urb_group.specs.internal.PacketTargets.{AreEnds, HoldsPair, IsAsCertified, TellsTruth}
-use Rattle.urb_group.specs.internal.PacketTargets.{is_for_node}
-use Rattle.urb_group.specs.GroupViews.{GroupView, Shows, view_of}
-use Rattle.urb_world.specs.Step.{Arrive, at_node, is_for, step}
-use Rattle.urb_world.specs.World.{World, bears_out, stored, truthful}
+use Rattle.urb_node.specs.Replies.{Reply}
+use Rattle.urb_group.specs.internal.PlaceCalls.{MayReach}
+use Rattle.urb_group.specs.internal.PacketTargets.{HoldsPair, IsAsCertified, TellsTruth}
+use Rattle.urb_world.specs.Step.{is_for, step}
+use Rattle.urb_world.specs.World.{bears_out}
 use Rattle.urb_group.specs.declared.node_moves.Node.{Node as Place}
-use Rattle.urb_group.specs.declared.node_moves.Node.TheVariants as place
-use Rattle.urb_group.specs.declared.taken.Taken.{Taken}
 use Rattle.urb_group.proofs.shown.SoundConditions.{arrival-meets}
 use Rattle.urb_group.proofs.moves.GroupMoves.{takes}
 use Rattle.urb_group.proofs.shown.NodeMoves.{place_shows}
 use Rattle.urb_group.proofs.shown.ReplacedElements.{read_mapped}
 use Rattle.urb_world.proofs.steps.ConfirmedPackets.{borne-pair}
+use Rattle.urb_names.specs.declared.refusal.Refusal.TheVariants as refusal
+use Rattle.urb_group.specs.declared.node_moves.Node.TheVariants as place
 
 -- ---- what a node has stored
 

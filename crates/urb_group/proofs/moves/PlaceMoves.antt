@@ -1,29 +1,24 @@
 -- What a node's own clauses say of its calls, stated for the node in its place.
-use Rattle.std.proofs.Common.{Bool, Err, List, Ok, Result, ap, eqb-true, false, not, refl, subst}
-use Rattle.std.proofs.Common.{suc, sym, true, ℕ, ◌&&◌, ◌==◌, ◌∙◌, ◌≡◌}
-use Rattle.std.proofs.lemmas.Bool.{and_parts, cond-false}
-use Rattle.urb_names.specs.CarriedPackets.{Carried}
-use Rattle.urb_names.specs.LabelsAndContents.{Content, Limits}
-use Rattle.urb_names.specs.declared.refusal.NoMemory.{NoMemory}
-use Rattle.urb_names.specs.declared.refusal.Refusal.{Refusal}
-use Rattle.urb_names.specs.declared.refusal.Refusal.TheVariants as refusal
-use Rattle.urb_stable.specs.Entries.{Entry}
-use Rattle.urb_stable.specs.PlacedRecords.{Placed}
-use Rattle.urb_node.specs.CallEffects.{Arrives, Confirms, Crashes, Fails, IsRefusedAs, LeadsTo, Restarts}
+use Rattle.urb_group.proofs.Common.{ArrivesAt, Bool, Carried, CommitsAt, Content, CrashesAt, Done}
+use Rattle.urb_group.proofs.Common.{Entry, Err, FailsAt, HoldsAt, IsRefusedAs, Leads, Limits, List}
+use Rattle.urb_group.proofs.Common.{NoMemory, Node, Ok, Placed, Ready, Refusal, Refused, RestartsAt}
+use Rattle.urb_group.proofs.Common.{Result, ShowsReady, SubmitsAt, TicksAt, and_parts, ap}
+use Rattle.urb_group.proofs.Common.{arrives_as, commits, cond-false, eqb-true, false, is_down}
+use Rattle.urb_group.proofs.Common.{is_storing, next_position, not, refl, same_record, submits}
+use Rattle.urb_group.proofs.Common.{subst, suc, sym, told_taken, true, ℕ, ◌&&◌, ◌==◌, ◌∙◌, ◌≡◌}
+use Rattle.urb_node.specs.CallEffects.{Arrives, Confirms, Crashes, Fails, LeadsTo, Restarts}
 use Rattle.urb_node.specs.CallEffects.{Submits, Ticks}
-use Rattle.urb_node.specs.Part.{Node, Ready, State}
-use Rattle.urb_node.specs.Replies.{Done, Refused, Reply}
-use Rattle.urb_node.specs.Steps.{arrives, commits, is_down, is_storing, next_position, same_record}
-use Rattle.urb_node.specs.Steps.{submits, ticks}
-use Rattle.urb_node.specs.NodeMemories.{Fallen, Holding, Memory, ShowsReady, ShowsStoring, draft_of}
+use Rattle.urb_node.specs.Part.{State}
+use Rattle.urb_node.specs.Replies.{Reply}
+use Rattle.urb_node.specs.Steps.{arrives, ticks}
+use Rattle.urb_node.specs.NodeMemories.{Fallen, Holding, Memory, ShowsStoring, draft_of}
 use Rattle.urb_node.specs.declared.step.Step.{Step}
-use Rattle.urb_node.specs.declared.step.Step.TheVariants as step
-use Rattle.urb_group.specs.internal.PlaceCalls.{ArrivesAt, CommitsAt, CrashesAt, FailsAt, HoldsAt}
-use Rattle.urb_group.specs.internal.PlaceCalls.{Leads, RestartsAt, SubmitsAt, TicksAt, after_step}
-use Rattle.urb_group.specs.internal.PlaceCalls.{arrives_as, told_taken}
+use Rattle.urb_group.specs.internal.PlaceCalls.{after_step}
 use Rattle.urb_group.specs.declared.node_moves.Node.{Node as Place}
-use Rattle.urb_group.specs.declared.node_moves.Node.TheVariants as place
 use Rattle.urb_node.proofs.RestartReplies.{same_record-true}
+use Rattle.urb_names.specs.declared.refusal.Refusal.TheVariants as refusal
+use Rattle.urb_node.specs.declared.step.Step.TheVariants as step
+use Rattle.urb_group.specs.declared.node_moves.Node.TheVariants as place
 
 -- a client's message, by its parts
 abbrev pub content : ℕ → ℕ → List ℕ → Content

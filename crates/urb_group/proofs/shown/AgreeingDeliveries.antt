@@ -1,32 +1,23 @@
 -- The deliveries of a sound group's nodes agree.
-use Rattle.std.proofs.Common.{Bool, List, Option, [], ap, arith, cond, eq-eqb, false, filter, inl}
-use Rattle.std.proofs.Common.{inr, le-ltb, length, lt-ltb, map, nat_lt, ne_eqb, refl, subst, suc}
-use Rattle.std.proofs.Common.{sym, true, zero, ℕ, ⊎_elim, ◌*◌, ◌+◌, ◌<◌, ◌==◌, ◌^◌, ◌∙◌, ◌∷◌, ◌≡◌}
-use Rattle.std.proofs.Common.{◌≤◌, ◌⊎◌}
-use Rattle.std.proofs.lemmas.Bool.{and_parts, cases_eq, cases_lt, or_left, or_right}
-use Rattle.std.proofs.lemmas.List.{length-map}
-use Rattle.urb_names.specs.declared.limits.TheConstants.{MAX_CAP, MAX_NODES}
+use Rattle.urb_group.proofs.Common.{Bool, Content, GroupView, IsLimits, IsSound, Label, List}
+use Rattle.urb_group.proofs.Common.{MAX_NODES, Option, World, [], all_kept, and_parts, ap, arith}
+use Rattle.urb_group.proofs.Common.{cases_eq, cases_lt, cond, delivered_at, eq-eqb, false, filter}
+use Rattle.urb_group.proofs.Common.{has_name, has_pair-found, in_range, inl, inr, kept-range, known}
+use Rattle.urb_group.proofs.Common.{le-ltb, length, length-map, log, lt-ltb, map, message_of, name}
+use Rattle.urb_group.proofs.Common.{nat_lt, ne_eqb, numbers_from, or_left, or_right, pend, refl}
+use Rattle.urb_group.proofs.Common.{safe, same_name, same_name-same, stored, subst, suc, sym, true}
+use Rattle.urb_group.proofs.Common.{zero, ℕ, ⊎_elim, ◌*◌, ◌+◌, ◌<◌, ◌==◌, ◌^◌, ◌∙◌, ◌∷◌, ◌≡◌, ◌≤◌}
+use Rattle.urb_group.proofs.Common.{◌⊎◌}
+use Rattle.urb_names.specs.declared.limits.TheConstants.{MAX_CAP}
 use Rattle.urb_world.proofs.safety.AgreeingLogs.{agree-now}
 use Rattle.urb_group.proofs.shown.Deliveries.{deliveries-known, known-begins, length-known}
-use Rattle.urb_world.proofs.steps.Runs.{all_kept}
-use Rattle.urb_world.proofs.safety.SafeWorlds.{safe}
-use Rattle.urb_group.specs.DeliveredMessages.{Agree, delivered_at, known, sent_by}
+use Rattle.urb_group.specs.DeliveredMessages.{Agree, sent_by}
 use Rattle.urb_world.specs.SafetyProperties.{Safe}
-use Rattle.urb_group.specs.GroupViews.{GroupView, IsSound}
-use Rattle.urb_world.specs.World.{World, stored}
-use Rattle.urb_names.proofs.FoundPairs.{has_pair-found}
 use Rattle.urb_names.proofs.LogRows.{has-row, has_name-part}
-use Rattle.urb_names.proofs.SameNames.{same_name-same}
 use Rattle.urb_names.specs.ListPrefixes.{OneBegins}
-use Rattle.urb_names.specs.Names.{has_name, name, names, same_name}
-use Rattle.urb_names.specs.LabelsAndContents.{Content, IsLimits, Label}
-use Rattle.urb_names.specs.Nodes.{numbers_from}
-use Rattle.urb_names.specs.Pairs.{message_of}
+use Rattle.urb_names.specs.Names.{names}
 use Rattle.urb_names.specs.Release.{part_of}
-use Rattle.urb_stable.proofs.KeptRules.{kept-range}
-use Rattle.urb_stable.specs.Fitting.{in_range}
-use Rattle.urb_stable.specs.DeliveredLogs.{entries_of, log}
-use Rattle.urb_stable.specs.Records.{pend}
+use Rattle.urb_stable.specs.DeliveredLogs.{entries_of}
 
 -- ---- one sender's deliveries
 

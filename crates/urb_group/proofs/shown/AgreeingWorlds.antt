@@ -1,33 +1,25 @@
 -- What one world of a group keeps, each world that the group shows keeps. A step keeps a group
 -- sound.
-use Rattle.std.proofs.Common.{Bool, List, None, Some, [], ap, ap₂, cond, false, is_none}
-use Rattle.std.proofs.Common.{is_some, not, refl, subst, suc, sym, true, ℕ, ⊎_elim, ◌&&◌, ◌++◌}
-use Rattle.std.proofs.Common.{◌==◌, ◌∙◌, ◌∷◌, ◌≡◌}
+use Rattle.urb_group.proofs.Common.{Bool, Cert, Content, Down, Entry, Event, GroupView, Grows}
+use Rattle.urb_group.proofs.Common.{IsKept, IsSound, KeepsOwn, Kept, Label, Limits, List, MayJoin}
+use Rattle.urb_group.proofs.Common.{Node, NodeKept, NodeShort, None, Pend, PendCert, Ready, Rules}
+use Rattle.urb_group.proofs.Common.{Shows, Some, Storing, World, [], ap, ap₂, cert, cond, doubt}
+use Rattle.urb_group.proofs.Common.{false, has_name, has_pair, has_pair-left, held_by_majority}
+use Rattle.urb_group.proofs.Common.{in_range, is_next_own, is_none, is_some, known_held, message_of}
+use Rattle.urb_group.proofs.Common.{name, not, own, pend, pend-append, refl, step-keeps, stored}
+use Rattle.urb_group.proofs.Common.{subst, suc, sym, true, updated, ℕ, ⊎_elim, ◌&&◌, ◌++◌, ◌==◌}
+use Rattle.urb_group.proofs.Common.{◌∙◌, ◌∷◌, ◌≡◌}
 use Rattle.urb_world.proofs.steps.OneNodeStep.{caused-grows}
-use Rattle.urb_world.proofs.steps.Runs.{step-keeps}
 use Rattle.urb_world.proofs.steps.ShortPayloads.{step-short}
-use Rattle.urb_world.specs.RunInvariant.{DoubtShort, IsKept, MayJoin, NodeKept, NodeShort, StateKept}
-use Rattle.urb_group.specs.GroupViews.{GroupView, IsSound, Shows}
-use Rattle.urb_world.specs.Step.{Event, step}
-use Rattle.urb_world.specs.World.{World, stored, updated}
-use Rattle.urb_names.proofs.FoundPairs.{Unique, has_pair-cases, has_pair-left, has_pair-right}
-use Rattle.urb_names.proofs.FoundPairs.{same_found}
+use Rattle.urb_world.specs.RunInvariant.{DoubtShort, StateKept}
+use Rattle.urb_world.specs.Step.{step}
+use Rattle.urb_names.proofs.FoundPairs.{Unique, has_pair-cases, has_pair-right, same_found}
 use Rattle.urb_names.proofs.Places.{same_at_each}
 use Rattle.urb_names.specs.Acknowledgements.{acked}
-use Rattle.urb_names.specs.Names.{has_name, name}
-use Rattle.urb_names.specs.LabelsAndContents.{Content, Label, Limits}
-use Rattle.urb_names.specs.Pairs.{has_pair, message_of, own}
-use Rattle.urb_node.specs.Part.{Down, Node, Ready, State, Storing}
-use Rattle.urb_node.specs.Steps.{doubt}
-use Rattle.urb_stable.proofs.JoinedRecords.{pend-append}
-use Rattle.urb_stable.proofs.KeptRules.{Grows, kept-held, kept-known, kept-numbered, kept-unique}
+use Rattle.urb_node.specs.Part.{State}
+use Rattle.urb_stable.proofs.KeptRules.{kept-held, kept-known, kept-numbered, kept-unique}
 use Rattle.urb_stable.proofs.KeptRules.{majority_held-grows, rules-grow}
 use Rattle.urb_stable.proofs.OwnRules.{to_kept}
-use Rattle.urb_stable.specs.Entries.{Entry}
-use Rattle.urb_stable.specs.Fitting.{KeepsOwn, Kept, Rules, held_by_majority, in_range, is_next_own}
-use Rattle.urb_stable.specs.Fitting.{known_held}
-use Rattle.urb_stable.specs.Records.{cert, pend}
-use Rattle.urb_stable.specs.declared.record.Record.TheVariants.{Cert, Pend, PendCert}
 
 -- the two don't differ in what a group holds in memory
 pub record Alike (size : Limits) (p : ℕ) (a b : Node) : Type 0 where

@@ -1,34 +1,20 @@
 -- What a group has delivered, by what it holds in memory, is what its worlds have delivered; and
 -- how an event changes it.
-use Rattle.std.proofs.Common.{List, Option, Some, [], ap, ap₂, arith, filter_map, length, map}
-use Rattle.std.proofs.Common.{ne_eqb, option_map, refl, subst, sym, true, ℕ, ◌++◌, ◌∙◌, ◌∷◌, ◌≡◌}
-use Rattle.std.proofs.Common.{◌≢◌, ◌+◌}
-use Rattle.std.proofs.lemmas.Bool.{or_left, or_right}
-use Rattle.std.proofs.lemmas.List.{length-map}
+use Rattle.urb_group.proofs.Common.{Begins, Commit, Content, Done, Entry, Event, GroupView, IsSound}
+use Rattle.urb_group.proofs.Common.{Label, List, Node, Option, Shows, Some, Steps, Stored, World}
+use Rattle.urb_group.proofs.Common.{[], ap, ap₂, arith, delivered_at, filter_map, has_name, known}
+use Rattle.urb_group.proofs.Common.{length, length-map, log, map, message_of, ne_eqb, option_map}
+use Rattle.urb_group.proofs.Common.{or_left, or_right, pend, refl, safe, same_name, same_name-same}
+use Rattle.urb_group.proofs.Common.{step-elsewhere, step-goes_on, stored, subst, sym, true, view_of}
+use Rattle.urb_group.proofs.Common.{ℕ, ◌++◌, ◌+◌, ◌∙◌, ◌∷◌, ◌≡◌, ◌≢◌}
 use Rattle.urb_world.proofs.safety.AgreeingLogs.{entries-all_grow}
 use Rattle.urb_group.proofs.shown.AgreeingWorlds.{sound-kept, sound-step}
-use Rattle.urb_world.proofs.steps.DraftsInSteps.{step-elsewhere}
-use Rattle.urb_world.proofs.steps.Growth.{step-goes_on}
-use Rattle.urb_world.proofs.safety.SafeWorlds.{safe}
 use Rattle.urb_world.proofs.safety.StoredRecords.{commit-released, step-stored}
-use Rattle.urb_group.specs.GroupCalls.{Steps}
-use Rattle.urb_group.specs.DeliveredMessages.{Delivery, Follows, delivered_at}
+use Rattle.urb_group.specs.DeliveredMessages.{Delivery, Follows}
 use Rattle.urb_world.specs.EventEffects.{StoresNothing, event_node}
-use Rattle.urb_group.specs.DeliveredMessages.{known}
-use Rattle.urb_group.specs.GroupViews.{GroupView, IsSound, Shows, view_of}
-use Rattle.urb_world.specs.Step.{Commit, Event, step}
-use Rattle.urb_world.specs.World.{World, stored}
-use Rattle.urb_names.proofs.SameNames.{same_name-same}
-use Rattle.urb_names.specs.ListPrefixes.{Begins}
-use Rattle.urb_names.specs.Names.{has_name, same_name}
-use Rattle.urb_names.specs.LabelsAndContents.{Content, Label}
-use Rattle.urb_names.specs.Pairs.{message_of}
+use Rattle.urb_world.specs.Step.{step}
 use Rattle.urb_node.proofs.ShownNodes.{shown-found}
-use Rattle.urb_node.specs.Part.{Node}
-use Rattle.urb_node.specs.Replies.{Done, Stored}
-use Rattle.urb_stable.specs.Entries.{Entry}
-use Rattle.urb_stable.specs.DeliveredLogs.{entries, log}
-use Rattle.urb_stable.specs.Records.{pend}
+use Rattle.urb_stable.specs.DeliveredLogs.{entries}
 
 -- ---- what is held is what the worlds have
 

@@ -1,16 +1,9 @@
 -- What the node in one place answers is what the group answers in every world that it shows.
-use Rattle.std.proofs.Common.{Bool, List, None, Option, Some, arith, cond, false, is_some, length}
-use Rattle.std.proofs.Common.{option_map, refl, slice_index_or, subst, suc, sym, true, ℕ, ◌&&◌, ◌<◌}
-use Rattle.std.proofs.Common.{◌∙◌, ◌≡◌}
-use Rattle.std.proofs.lemmas.Bool.{cond-false, cond-true}
-use Rattle.std.proofs.lemmas.Option.{slice_get_read}
-use Rattle.std.specs.Prelude.{slice_get}
-use Rattle.urb_names.specs.LabelsAndContents.{Limits}
-use Rattle.urb_names.specs.Nodes.{is_node}
-use Rattle.urb_node.specs.Part.{Node}
-use Rattle.urb_group.specs.GroupCalls.{Answers}
-use Rattle.urb_group.specs.PlaceViews.{shown}
-use Rattle.urb_group.specs.internal.PlaceInvariant.{IsGroup, ShowsAt}
+use Rattle.urb_group.proofs.Common.{Answers, Bool, IsGroup, Limits, List, Node, None, Option}
+use Rattle.urb_group.proofs.Common.{ShowsAt, Some, arith, cond, cond-false, cond-true, false}
+use Rattle.urb_group.proofs.Common.{is_node, is_some, length, option_map, refl, shown, slice_get}
+use Rattle.urb_group.proofs.Common.{slice_get_read, slice_index_or, subst, suc, sym, true, ℕ, ◌&&◌}
+use Rattle.urb_group.proofs.Common.{◌<◌, ◌∙◌, ◌≡◌}
 use Rattle.urb_group.specs.declared.node_moves.Node.{Node as Place}
 use Rattle.urb_group.proofs.shown.NodeMoves.{place_shows}
 use Rattle.urb_group.proofs.shown.ShownWorlds.{is-node, no-node}

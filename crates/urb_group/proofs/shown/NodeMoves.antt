@@ -1,35 +1,27 @@
 -- What one node's move means for the whole group. It is a step of each world that the group shows,
 -- and the group is sound after it.
-use Rattle.std.proofs.Common.{Err, List, Ok, Some, ap, arith, get_or-set_same, length, map, refl}
-use Rattle.std.proofs.Common.{set, slice_index_or, subst, suc, sym, ℕ, ⊎_elim, ◌<◌, ◌∙◌, ◌≡◌}
-use Rattle.std.proofs.lemmas.List.{length-map, length-set, map-set}
-use Rattle.std.specs.Prelude.{slice_get}
-use Rattle.urb_names.specs.LabelsAndContents.{Limits}
-use Rattle.urb_names.specs.declared.refusal.Refusal.{Refusal}
-use Rattle.urb_names.specs.declared.refusal.Refusal.TheVariants as refusal
-use Rattle.urb_stable.specs.PlacedRecords.{Placed}
-use Rattle.urb_node.specs.CallEffects.{IsRefusedAs}
-use Rattle.urb_node.specs.Part.{Node, Storing}
+use Rattle.urb_group.proofs.Common.{CallResult, Err, Event, GroupView, Happens, HoldsDraft, IsGroup}
+use Rattle.urb_group.proofs.Common.{IsNumbered, IsRefused, IsRefusedAs, IsSound, Leads, LeadsAt}
+use Rattle.urb_group.proofs.Common.{Limits, List, Node, NodeView, Ok, Outcomes, Placed, Refusal}
+use Rattle.urb_group.proofs.Common.{Shows, ShowsAt, ShowsNode, Some, Steps, Storing, World, ap}
+use Rattle.urb_group.proofs.Common.{arith, at_node, get_or-set_same, length, length-map, map}
+use Rattle.urb_group.proofs.Common.{memory_in, no_view, refl, set, shown, slice_get, slice_index_or}
+use Rattle.urb_group.proofs.Common.{step-goes_on, step-keeps, step-outcome, subst, suc, sym}
+use Rattle.urb_group.proofs.Common.{view_at, view_of, world_after, ℕ, ⊎_elim, ◌<◌, ◌∙◌, ◌≡◌}
+use Rattle.std.proofs.lemmas.List.{length-set, map-set}
 use Rattle.urb_node.specs.Replies.{Reply}
-use Rattle.urb_node.specs.NodeViews.{NodeView, ShowsNode, no_view}
 use Rattle.urb_node.specs.NodeMemories.{IsSameNode}
 use Rattle.urb_world.specs.EventEffects.{event_node}
-use Rattle.urb_group.specs.GroupCalls.{Happens, HoldsDraft, IsRefused, Steps}
-use Rattle.urb_group.specs.internal.PlaceCalls.{CallResult, IsHeldAt, Leads, LeadsAt, Outcomes}
-use Rattle.urb_group.specs.PlaceViews.{memory_in, shown, view_at}
-use Rattle.urb_group.specs.internal.PlaceInvariant.{IsGroup, IsNumbered, ShowsAt}
-use Rattle.urb_group.specs.GroupViews.{GroupView, IsSound, Shows, view_of}
-use Rattle.urb_world.specs.Step.{Event, at_node, step, world_after}
-use Rattle.urb_world.specs.World.{World}
+use Rattle.urb_group.specs.internal.PlaceCalls.{IsHeldAt}
+use Rattle.urb_world.specs.Step.{step}
 use Rattle.urb_group.specs.declared.node_moves.Node.{Node as Place}
-use Rattle.urb_group.specs.declared.node_moves.Node.TheVariants as place
 use Rattle.urb_group.proofs.shown.AgreeingWorlds.{sound-kept, sound-step}
-use Rattle.urb_world.proofs.steps.Growth.{step-goes_on}
-use Rattle.urb_world.proofs.steps.StepCases.{IsNoArrival, outcome_of, step-outcome}
+use Rattle.urb_world.proofs.steps.StepCases.{IsNoArrival, outcome_of}
 use Rattle.urb_group.proofs.shown.ReplacedElements.{read_after_write, read_mapped, read_within}
 use Rattle.urb_group.proofs.shown.ReplacedElements.{set_same}
-use Rattle.urb_world.proofs.steps.Runs.{step-keeps}
 use Rattle.urb_group.proofs.shown.ShownWorlds.{at_no_node, at_some_node, shows-after}
+use Rattle.urb_names.specs.declared.refusal.Refusal.TheVariants as refusal
+use Rattle.urb_group.specs.declared.node_moves.Node.TheVariants as place
 
 -- the result of an event in every world that a group shows
 abbrev pub StepsTo : GroupView → Event → CallResult → GroupView → Type 0

@@ -1,21 +1,16 @@
 -- How a new or opened group, and one that changes one node, shows a world.
-use Rattle.std.proofs.Common.{List, [], ap, arith, cond, eq-eqb, false, get_or-set_other}
-use Rattle.std.proofs.Common.{get_or-set_same, inl, inr, le-ltb, length, lt-ltb, nat_lt, ne_eqb}
-use Rattle.std.proofs.Common.{refl, replicate, slice_index_or, slice_set, subst, suc, sym, true}
-use Rattle.std.proofs.Common.{zero, ℕ, ◌++◌, ◌<◌, ◌==◌, ◌∙◌, ◌∷◌, ◌≡◌, ◌⊎◌}
-use Rattle.std.proofs.lemmas.Bool.{and_from, and_right, cases_eq, cond-false, cond-true}
+use Rattle.urb_group.proofs.Common.{AreImages, Entry, Fits, GroupView, IsSound, KeepsOwn, Kept}
+use Rattle.urb_group.proofs.Common.{Limits, List, Node, NodeView, Refused, Shows, ShowsNode, World}
+use Rattle.urb_group.proofs.Common.{[], and_from, and_right, ap, arith, at_node, cases_eq, cond}
+use Rattle.urb_group.proofs.Common.{cond-false, cond-true, eq-eqb, false, get_or-set_other}
+use Rattle.urb_group.proofs.Common.{get_or-set_same, inl, inr, is_node, le-ltb, length, lt-ltb}
+use Rattle.urb_group.proofs.Common.{nat_lt, ne_eqb, no_view, nothing-shows, opened, opened_node}
+use Rattle.urb_group.proofs.Common.{refl, replicate, slice_index_or, slice_set, started, subst, suc}
+use Rattle.urb_group.proofs.Common.{sym, true, updated, view_of, world_after, zero, ℕ, ◌++◌, ◌<◌}
+use Rattle.urb_group.proofs.Common.{◌==◌, ◌∙◌, ◌∷◌, ◌≡◌, ◌⊎◌}
 use Rattle.urb_world.proofs.steps.Runs.{new-kept, opened-kept}
-use Rattle.urb_group.specs.GroupViews.{GroupView, IsSound, Shows, view_of}
-use Rattle.urb_world.specs.Step.{at_node, world_after}
-use Rattle.urb_world.specs.World.{AreImages, World, image_of, opened, started, updated}
-use Rattle.urb_names.specs.LabelsAndContents.{Limits}
-use Rattle.urb_names.specs.Nodes.{is_node}
-use Rattle.urb_node.proofs.Openings.{nothing-shows}
-use Rattle.urb_node.specs.Part.{Node, opened_node}
-use Rattle.urb_node.specs.Replies.{Refused, Reply}
-use Rattle.urb_node.specs.NodeViews.{NodeView, ShowsNode, no_view}
-use Rattle.urb_stable.specs.Entries.{Entry}
-use Rattle.urb_stable.specs.Fitting.{Fits, KeepsOwn, Kept}
+use Rattle.urb_world.specs.World.{image_of}
+use Rattle.urb_node.specs.Replies.{Reply}
 use Rattle.urb_names.specs.declared.refusal.Refusal.TheVariants as refusal
 
 -- ---- an opened group

@@ -1,20 +1,12 @@
 -- What a sound group gives its nodes: the conditions of an arrival, and of opening an image.
-use Rattle.std.proofs.Common.{List, [], arith, ltb-true, nat_lt, subst, suc, sym, true, ℕ, ◌<◌, ◌∙◌}
-use Rattle.std.proofs.Common.{◌≡◌, ◌≤◌}
-use Rattle.std.proofs.lemmas.Bool.{and_parts}
+use Rattle.urb_group.proofs.Common.{AreImages, Content, Entry, Fits, GroupView, IsSound, KeepsOwn}
+use Rattle.urb_group.proofs.Common.{Label, Limits, List, MayArrive, World, [], all_kept, and_parts}
+use Rattle.urb_group.proofs.Common.{arith, fitting-kept, has_pair, has_pair-found, kept-range}
+use Rattle.urb_group.proofs.Common.{ltb-true, nat_lt, pend, stored, subst, suc, sym, true, view_of}
+use Rattle.urb_group.proofs.Common.{ℕ, ◌<◌, ◌∙◌, ◌≡◌, ◌≤◌}
 use Rattle.urb_world.proofs.steps.DraftedRecords.{AllKept, agree, to_sender}
-use Rattle.urb_world.proofs.steps.Runs.{all_kept, fitting-kept}
 use Rattle.urb_group.proofs.shown.ShownWorlds.{kept-own}
-use Rattle.urb_group.specs.GroupViews.{GroupView, IsSound, view_of}
-use Rattle.urb_world.specs.World.{AreImages, World, image_of, stored}
-use Rattle.urb_names.proofs.FoundPairs.{has_pair-found}
-use Rattle.urb_names.specs.LabelsAndContents.{Content, Label, Limits}
-use Rattle.urb_names.specs.Pairs.{has_pair}
-use Rattle.urb_node.specs.RecordAdmission.{MayArrive}
-use Rattle.urb_stable.proofs.KeptRules.{kept-range}
-use Rattle.urb_stable.specs.Entries.{Entry}
-use Rattle.urb_stable.specs.Fitting.{Fits, KeepsOwn}
-use Rattle.urb_stable.specs.Records.{pend}
+use Rattle.urb_world.specs.World.{image_of}
 
 -- a pair that one node holds may come to any other
 pub arrival-meets : (group : GroupView) → IsSound group → (p q : ℕ) (x : Label) (m : Content)

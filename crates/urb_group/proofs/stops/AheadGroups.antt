@@ -1,15 +1,10 @@
 -- A stop of all nodes of a group, some of whose stores hold records ahead.
-use Rattle.std.proofs.Common.{List, [], inl, inr, refl, subst, sym, ℕ, ◌∙◌}
+use Rattle.urb_group.proofs.Common.{Entry, GoesOnIn, GroupView, Grows, IsSound, Limits, List}
+use Rattle.urb_group.proofs.Common.{MayFollow, Shows, ShowsNode, World, [], follow-grows, inl, inr}
+use Rattle.urb_group.proofs.Common.{refl, stored, subst, sym, view_of, ℕ, ◌∙◌}
 use Rattle.urb_group.proofs.shown.AgreeingWorlds.{sound-kept}
-use Rattle.urb_world.proofs.stops.AheadWorlds.{follow-grows, survives-ahead}
-use Rattle.urb_world.specs.StoresAhead.{MayFollow, MayLeaveAhead}
-use Rattle.urb_group.specs.GroupViews.{GroupView, IsSound, Shows, view_of}
-use Rattle.urb_world.specs.ProcessStops.{GoesOnIn}
-use Rattle.urb_world.specs.World.{World, stored}
-use Rattle.urb_names.specs.LabelsAndContents.{Limits}
-use Rattle.urb_node.specs.NodeViews.{ShowsNode}
-use Rattle.urb_stable.proofs.KeptRules.{Grows}
-use Rattle.urb_stable.specs.Entries.{Entry}
+use Rattle.urb_world.proofs.stops.AheadWorlds.{survives-ahead}
+use Rattle.urb_world.specs.StoresAhead.{MayLeaveAhead}
 
 -- a stop of all nodes is survived, though each node is looked at in a world of its own
 pub all-survive-ahead : (group : GroupView) (images : ℕ → List Entry) → IsSound group

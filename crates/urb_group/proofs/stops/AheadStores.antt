@@ -1,27 +1,15 @@
 -- A store that holds records ahead of its node, while the node drafts and commits them one by one.
-use Rattle.std.proofs.Common.{Bool, List, Option, [], ap, append_assoc, append-nil, eqb-true}
-use Rattle.std.proofs.Common.{false, length, refl, subst, suc, sym, true, ℕ, ◌++◌, ◌==◌, ◌∙◌, ◌∷◌}
-use Rattle.std.proofs.Common.{◌≡◌}
-use Rattle.urb_world.proofs.steps.DraftsInSteps.{step-elsewhere, step-size}
-use Rattle.urb_world.proofs.steps.Growth.{pair-begins}
-use Rattle.urb_world.proofs.stops.AheadWorlds.{follow-grows}
+use Rattle.urb_group.proofs.Common.{Begins, Bool, Cause, Commit, Entry, Event, Ghosts, Grows}
+use Rattle.urb_group.proofs.Common.{HoldsOf, IsContents, IsStoreOf, Limits, List, MayFollow, Node}
+use Rattle.urb_group.proofs.Common.{Option, Ready, Storing, World, [], ap, append-nil, append_assoc}
+use Rattle.urb_group.proofs.Common.{commit-node, doubt, eqb-true, false, follow-grows, is_node}
+use Rattle.urb_group.proofs.Common.{length, pair-begins, refl, step-elsewhere, step-size, stored}
+use Rattle.urb_group.proofs.Common.{subst, suc, sym, true, ℕ, ◌++◌, ◌==◌, ◌∙◌, ◌∷◌, ◌≡◌}
 use Rattle.urb_group.proofs.stops.StockedClusters.{leaves-held}
-use Rattle.urb_world.proofs.stops.StockedNodes.{commit-node}
 use Rattle.urb_group.proofs.stops.StockedSteps.{IsQuiet, quiet-stays}
-use Rattle.urb_world.specs.StoresAhead.{IsAheadOf, MayFollow}
-use Rattle.urb_world.specs.Step.{Commit, Event, step}
-use Rattle.urb_group.specs.StoreContents.{HoldsOf, IsStoreOf}
-use Rattle.urb_world.specs.World.{World, stored}
-use Rattle.urb_names.specs.ListPrefixes.{Begins}
-use Rattle.urb_names.specs.LabelsAndContents.{Limits}
-use Rattle.urb_names.specs.Nodes.{is_node}
-use Rattle.urb_node.specs.Part.{Node, Ready, State, Storing}
-use Rattle.urb_node.specs.Steps.{doubt}
-use Rattle.urb_node.specs.declared.cause.Cause.{Cause}
-use Rattle.urb_stable.proofs.KeptRules.{Grows}
-use Rattle.urb_stable.specs.Entries.{Entry}
-use Rattle.urb_stable.specs.StableStorage.{IsContents}
-use Rattle.urb_stable.specs.declared.stable.Stable.{Ghosts}
+use Rattle.urb_world.specs.StoresAhead.{IsAheadOf}
+use Rattle.urb_world.specs.Step.{step}
+use Rattle.urb_node.specs.Part.{State}
 
 module _ {S A : Type 0} (g : Ghosts S A) where
   -- the node drafts the first record of the tail, and its receipt comes

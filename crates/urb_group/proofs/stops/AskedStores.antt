@@ -1,15 +1,10 @@
 -- Stores that are asked for their records one after the other.
-use Rattle.std.proofs.Common.{Err, List, Ok, [], ap, append_assoc, arith, length, refl, subst}
-use Rattle.std.proofs.Common.{suc, sym, ℕ, ◌++◌, ◌<◌, ◌∙◌, ◌∷◌, ◌≡◌}
-use Rattle.std.specs.Prelude.{drop, slice_index_or, slice_set, take}
+use Rattle.urb_group.proofs.Common.{AllGive, Entry, Err, FirstFails, Ghosts, Gives, List, Ok}
+use Rattle.urb_group.proofs.Common.{StoreFault, [], ap, append_assoc, arith, drop, length}
+use Rattle.urb_group.proofs.Common.{one_longer, refl, slice_index_or, slice_set, subst, suc, sym}
+use Rattle.urb_group.proofs.Common.{take, ℕ, ◌++◌, ◌<◌, ◌∙◌, ◌∷◌, ◌≡◌}
 use Rattle.std.proofs.Math.Seq.{drop-length, take-append_seam}
-use Rattle.urb_stable.specs.Entries.{Entry}
-use Rattle.urb_stable.specs.declared.stable.Stable.{Ghosts}
-use Rattle.urb_stable.specs.declared.stable.StoreFault.{StoreFault}
 use Rattle.urb_group.proofs.stops.OpenedClusters.{give-more}
-use Rattle.urb_group.specs.StoreQuestions.{Gives}
-use Rattle.urb_group.specs.StoreOpenings.{AllGive, FirstFails}
-use Rattle.urb_names.proofs.Places.{one_longer}
 
 -- the first stores gave these lists, and the others are as they were
 pub record HasAsked {S A : Type 0} (g : Ghosts S A) (stores now : List S)

@@ -1,32 +1,19 @@
 -- The store of a node that is up is in place for the draft that the node holds, if it is honest.
-use Rattle.std.proofs.Common.{Bool, Err, None, Ok, Option, Result, Some, ap, arith, eq-eqb, false}
-use Rattle.std.proofs.Common.{length, ne_eqb, not, refl, subst, suc, sym, ℕ, ◌+◌, ◌<◌, ◌==◌}
-use Rattle.std.proofs.Common.{◌||◌, ◌∙◌, ◌≡◌, ◌≤◌, inl, inr}
-use Rattle.std.proofs.lemmas.Bool.{false≢true}
+use Rattle.urb_group.proofs.Common.{Applies, Bool, Breaks, Clustered, Command, Err, FailsHeld}
+use Rattle.urb_group.proofs.Common.{Failure, Ghosts, GroupView, IsLimits, IsPlaced, IsSound}
+use Rattle.urb_group.proofs.Common.{IsStocked, IsStoreOf, Keeps, Node, None, Ok, Option, Placed}
+use Rattle.urb_group.proofs.Common.{Result, Shows, Some, StoreFault, StoresHeld, World, ap, arith}
+use Rattle.urb_group.proofs.Common.{armed_with, eq-eqb, false, false≢true, held_draft, in_memory}
+use Rattle.urb_group.proofs.Common.{inl, inr, is_down, is_out_of_place, length, ne_eqb, not, refl}
+use Rattle.urb_group.proofs.Common.{subst, suc, sym, ℕ, ◌+◌, ◌<◌, ◌==◌, ◌||◌, ◌∙◌, ◌≡◌, ◌≤◌}
 use Rattle.urb_group.proofs.stops.NodeStoreInvariant.{HoldsIn, holds-in, store-before}
 use Rattle.urb_group.proofs.stops.RecordCounts.{few-records}
 use Rattle.urb_group.proofs.stops.StockedClusters.{beside-stocked}
 use Rattle.urb_group.proofs.calls.StoreAnswers.{held-as}
-use Rattle.urb_group.specs.GroupStores.{Clustered, held_draft}
-use Rattle.urb_group.specs.ClusterCalls.{Applies, Breaks, FailsHeld, StoresHeld}
-use Rattle.urb_world.specs.MemoryStores.{in_memory}
 use Rattle.urb_group.specs.InPlaceDrafts.{AppliesInPlace, FailsInPlace, IsInPlace, StoresInPlace}
-use Rattle.urb_group.specs.GroupViews.{GroupView, IsSound, Shows}
-use Rattle.urb_group.specs.StoreContents.{IsStocked, IsStoreOf}
-use Rattle.urb_world.specs.World.{World}
-use Rattle.urb_group.specs.declared.command.Command.{Command}
-use Rattle.urb_group.specs.declared.command.Command.TheVariants as command
-use Rattle.urb_names.specs.LabelsAndContents.{IsLimits}
-use Rattle.urb_node.specs.Part.{Node}
 use Rattle.urb_node.specs.Replies.{Reply}
-use Rattle.urb_node.specs.Steps.{is_down}
-use Rattle.urb_stable.specs.KeptDrafts.{Keeps}
-use Rattle.urb_stable.specs.MemoryStores.{Memory, armed_with}
-use Rattle.urb_stable.specs.PlacedRecords.{Placed}
-use Rattle.urb_stable.specs.StableStorage.{IsPlaced, is_out_of_place}
-use Rattle.urb_stable.specs.declared.memory.Failure.{Failure}
-use Rattle.urb_stable.specs.declared.stable.Stable.{Ghosts}
-use Rattle.urb_stable.specs.declared.stable.StoreFault.{StoreFault}
+use Rattle.urb_stable.specs.MemoryStores.{Memory}
+use Rattle.urb_group.specs.declared.command.Command.TheVariants as command
 use Rattle.urb_stable.specs.declared.stable.StoreFault.TheVariants as fault
 
 -- ---- one store

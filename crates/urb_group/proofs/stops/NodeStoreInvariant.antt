@@ -1,38 +1,25 @@
 -- A world that a cluster's group shows, and what a command preserves: a property of each of the
 -- world's nodes and that node's store.
-use Rattle.std.proofs.Common.{Bool, Err, List, None, Ok, Option, Result, Some, [], ap, arith, false}
-use Rattle.std.proofs.Common.{inl, inr, length, refl, subst, suc, sym, true, zero, ℕ, ◌&&◌, ◌-◌}
-use Rattle.std.proofs.Common.{◌<◌, ◌∙◌, ◌∷◌, ◌≡◌, ◌≢◌, ◌⊎◌, ⊎_elim, ◌++◌, ne_eqb}
-use Rattle.std.specs.Prelude.{slice_get, slice_set}
-use Rattle.std.proofs.lemmas.Bool.{and_parts, false≢true}
-use Rattle.urb_names.specs.LabelsAndContents.{Limits}
-use Rattle.urb_names.specs.Nodes.{is_node}
-use Rattle.urb_node.specs.Part.{Down, Node, Ready, State, Storing}
-use Rattle.urb_node.specs.Replies.{Refused, Reply}
-use Rattle.urb_node.specs.Steps.{is_down}
-use Rattle.urb_stable.specs.Entries.{Entry}
-use Rattle.urb_stable.specs.KeptDrafts.{Keeps}
-use Rattle.urb_stable.specs.PlacedRecords.{Placed}
-use Rattle.urb_stable.specs.declared.stable.Stable.{Ghosts}
-use Rattle.urb_stable.specs.declared.stable.StoreFault.{StoreFault}
-use Rattle.urb_world.proofs.steps.DraftsInSteps.{event_node, step-elsewhere}
+use Rattle.urb_group.proofs.Common.{Applies, AsksStore, Bool, Cause, Clustered, Command, Commit}
+use Rattle.urb_group.proofs.Common.{Crash, Down, Entry, Err, Event, Fail, Ghosts, Gives, GroupView}
+use Rattle.urb_group.proofs.Common.{Keeps, Limits, List, MayLeave, Node, None, Ok, Option, Placed}
+use Rattle.urb_group.proofs.Common.{Reacts, Ready, Refused, Restart, RestartsBy, Result, Returns}
+use Rattle.urb_group.proofs.Common.{Rises, Shows, Some, Steps, StoreFault, StoreMoves, StoresDraft}
+use Rattle.urb_group.proofs.Common.{StoresHeld, Storing, Tick, World, [], and_parts, ap, arith}
+use Rattle.urb_group.proofs.Common.{commit-node, false, false≢true, held_draft, inl, inr, is_down}
+use Rattle.urb_group.proofs.Common.{is_fallen, is_node, length, ne_eqb, refl, slice_get, slice_set}
+use Rattle.urb_group.proofs.Common.{step-elsewhere, stored_as, subst, suc, sym, true, view_of, zero}
+use Rattle.urb_group.proofs.Common.{ℕ, ⊎_elim, ◌&&◌, ◌++◌, ◌-◌, ◌<◌, ◌∙◌, ◌∷◌, ◌≡◌, ◌≢◌, ◌⊎◌}
+use Rattle.urb_node.specs.Part.{State}
+use Rattle.urb_node.specs.Replies.{Reply}
+use Rattle.urb_world.proofs.steps.DraftsInSteps.{event_node}
 use Rattle.urb_group.proofs.calls.DraftsInCalls.{node-bounds}
-use Rattle.urb_world.proofs.stops.StockedNodes.{Rises, commit-node, fail-node, restart-node}
-use Rattle.urb_world.proofs.stops.StockedNodes.{unfallen-stays}
+use Rattle.urb_world.proofs.stops.StockedNodes.{fail-node, restart-node, unfallen-stays}
 use Rattle.urb_group.proofs.stops.StockedSteps.{IsQuiet, Stays, quiet-stays}
 use Rattle.urb_group.proofs.calls.StoreAnswers.{IsHeldAs, held-as}
-use Rattle.urb_group.specs.StoreQuestions.{Gives}
-use Rattle.urb_group.specs.GroupCalls.{Steps}
-use Rattle.urb_group.specs.GroupStores.{Clustered, held_draft}
-use Rattle.urb_group.specs.ClusterCalls.{Alone, Applies, AsksStore, Reacts, RestartsBy, Returns}
-use Rattle.urb_group.specs.ClusterCalls.{StoreMoves, StoresDraft, StoresHeld, is_fallen, stored_as}
-use Rattle.urb_group.specs.GroupViews.{GroupView, Shows, view_of}
-use Rattle.urb_world.specs.Step.{Commit, Crash, Event, Fail, Restart, Tick, step}
-use Rattle.urb_world.specs.ProcessStops.{MayLeave}
-use Rattle.urb_world.specs.World.{World}
-use Rattle.urb_group.specs.declared.command.Command.{Command}
+use Rattle.urb_group.specs.ClusterCalls.{Alone}
+use Rattle.urb_world.specs.Step.{step}
 use Rattle.urb_group.specs.declared.command.Command.TheVariants as command
-use Rattle.urb_node.specs.declared.cause.Cause.{Cause}
 
 pub record Beside {S : Type 0} (P : Node → S → Type 0) (cluster : Clustered S) : Type 0 where
   -- a world

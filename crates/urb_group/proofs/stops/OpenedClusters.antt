@@ -1,24 +1,18 @@
 -- A cluster that is opened over stores is stocked. If its stores are honest, it goes on from the
 -- cluster that was stocked with them.
-use Rattle.std.proofs.Common.{Err, IfOk, List, Ok, Option, Result, Some, [], ap, append-nil, arith, false}
-use Rattle.std.proofs.Common.{inl, inr}
-use Rattle.std.proofs.Common.{length, refl, subst, suc, sym, zero, ℕ, ⊎_elim, ◌++◌, ◌∙◌, ◌∷◌, ◌≡◌}
-use Rattle.std.proofs.Common.{◌≤◌, ◌⊎◌}
-use Rattle.std.specs.List.{All, AllByRecursion}
-use Rattle.std.specs.Prelude.{Vec, slice_get, slice_index_or}
-use Rattle.std.proofs.lemmas.Bool.{false≢true}
-use Rattle.std.proofs.lemmas.List.Elements.{All-from_recursion, recursion_from_All}
-use Rattle.urb_names.specs.LabelsAndContents.{Limits}
-use Rattle.urb_names.specs.declared.refusal.Refusal.{Refusal}
-use Rattle.urb_names.specs.declared.refusal.Refusal.TheVariants as refusal
-use Rattle.urb_node.specs.Part.{Node, opened_node}
-use Rattle.urb_stable.specs.Entries.{Entry}
-use Rattle.urb_stable.specs.Fitting.{Fits}
+use Rattle.urb_group.proofs.Common.{All, AllByRecursion, AllGive, AllHold, AreChosen, Clustered}
+use Rattle.urb_group.proofs.Common.{Continues, Entry, Err, FirstFails, Fits, Ghosts, Gives}
+use Rattle.urb_group.proofs.Common.{GroupView, HoldsOf, IfOk, IsContents, IsKept, IsKnown}
+use Rattle.urb_group.proofs.Common.{IsStocked, IsStoreOf, LeavesOf, Limits, List, MayLeave, Node}
+use Rattle.urb_group.proofs.Common.{Ok, Opens, OpensFrom, OpensStores, Option, Refusal, RestLeaves}
+use Rattle.urb_group.proofs.Common.{Result, Shows, Some, StopLeaves, StoreFault, Vec, World, [], ap}
+use Rattle.urb_group.proofs.Common.{append-nil, arith, false, false≢true, fitting-kept, inl, inr}
+use Rattle.urb_group.proofs.Common.{is_place, length, opened, opened_node, recursion_from_All, refl}
+use Rattle.urb_group.proofs.Common.{slice_get, slice_index_or, stores_in, subst, suc, sym, zero, ℕ}
+use Rattle.urb_group.proofs.Common.{⊎_elim, ◌++◌, ◌∙◌, ◌∷◌, ◌≡◌, ◌≤◌, ◌⊎◌}
+use Rattle.std.proofs.lemmas.List.Elements.{All-from_recursion}
 use Rattle.urb_stable.specs.Images.{image_of}
-use Rattle.urb_stable.specs.StableStorage.{IsContents, is_bad_row, is_place, refusal_of}
-use Rattle.urb_stable.specs.declared.stable.Stable.{Ghosts}
-use Rattle.urb_stable.specs.declared.stable.StoreFault.{StoreFault}
-use Rattle.urb_stable.specs.declared.stable.StoreFault.TheVariants as fault
+use Rattle.urb_stable.specs.StableStorage.{is_bad_row, refusal_of}
 use Rattle.urb_group.proofs.moves.FittingImages.{misfit-unfit}
 use Rattle.urb_group.proofs.stops.NodeStoreInvariant.{one-store}
 use Rattle.urb_group.proofs.stops.SecuredClusters.{read-honest}
@@ -27,20 +21,12 @@ use Rattle.urb_world.proofs.stops.LimitChanges.{starts-on}
 use Rattle.urb_group.proofs.stops.StockedPlays.{chosen-left}
 use Rattle.urb_world.proofs.stops.StoppedWorlds.{goes-on-under}
 use Rattle.urb_group.proofs.stops.StoredWorlds.{outside-stored, stored-kept}
-use Rattle.urb_world.proofs.steps.Runs.{fitting-kept}
 use Rattle.urb_group.proofs.shown.AgreeingWorlds.{sound-kept}
-use Rattle.urb_group.specs.StoreQuestions.{Gives}
-use Rattle.urb_group.specs.GroupCalls.{Opens}
-use Rattle.urb_group.specs.GroupStores.{Clustered}
-use Rattle.urb_group.specs.StoreOpenings.{AllGive, AreRefused, FirstFails, Continues, ContinuesFrom}
-use Rattle.urb_group.specs.StoreOpenings.{HasStopped, OpensFrom, OpensGiven, OpensStores, stores_in}
-use Rattle.urb_group.specs.GroupViews.{GroupView, Shows}
-use Rattle.urb_group.specs.StoreContents.{AllHold, AreChosen, HoldsOf, IsKnown, IsStocked, IsStoreOf}
-use Rattle.urb_group.specs.StoreContents.{LeavesOf, RestLeaves, StopLeaves}
-use Rattle.urb_world.specs.ProcessStops.{GoesOnUnder, MayLeave}
+use Rattle.urb_group.specs.StoreOpenings.{AreRefused, ContinuesFrom, HasStopped, OpensGiven}
+use Rattle.urb_world.specs.ProcessStops.{GoesOnUnder}
 use Rattle.urb_world.specs.StartLimits.{MayStartWith}
-use Rattle.urb_world.specs.RunInvariant.{IsKept}
-use Rattle.urb_world.specs.World.{World, opened}
+use Rattle.urb_names.specs.declared.refusal.Refusal.TheVariants as refusal
+use Rattle.urb_stable.specs.declared.stable.StoreFault.TheVariants as fault
 
 -- ---- stores that were asked one after the other
 

@@ -1,27 +1,20 @@
 -- A node has few records: at most two for each name that its group may have.
-use Rattle.std.proofs.Common.{List, [], ap, append-nil, arith, flat_map, inl, inr, is_none, is_some}
-use Rattle.std.proofs.Common.{length, ltb-true, map, nat_lt, not, refl, subst, suc, sym, true, zero}
-use Rattle.std.proofs.Common.{ℕ, ⊎_elim, ◌&&◌, ◌*◌, ◌+◌, ◌++◌, ◌∙◌, ◌∷◌, ◌≡◌, ◌≤◌, ◌⊎◌}
-use Rattle.std.proofs.lemmas.Bool.{and_parts, false≢true, not-true, or_left, or_right}
+use Rattle.urb_group.proofs.Common.{Cert, Content, Entry, GroupView, IsLimits, IsSound, Kept, Label}
+use Rattle.urb_group.proofs.Common.{Limits, List, Pend, PendCert, Rules, Shows, World, []}
+use Rattle.urb_group.proofs.Common.{and_parts, ap, append-nil, arith, cert, false≢true, flat_map}
+use Rattle.urb_group.proofs.Common.{has_name, has_pair, in_range, inl, inr, is_none, is_some}
+use Rattle.urb_group.proofs.Common.{length, ltb-true, map, message_of, name, nat_lt, not, not-true}
+use Rattle.urb_group.proofs.Common.{numbers_from, or_left, or_right, pend, refl, same_name}
+use Rattle.urb_group.proofs.Common.{same_name-same, stored, subst, suc, sym, true, zero, ℕ, ⊎_elim}
+use Rattle.urb_group.proofs.Common.{◌&&◌, ◌*◌, ◌++◌, ◌+◌, ◌∙◌, ◌∷◌, ◌≡◌, ◌≤◌, ◌⊎◌}
 use Rattle.std.proofs.lemmas.List.{length-append}
 use Rattle.urb_group.proofs.shown.AgreeingWorlds.{sound-kept}
 use Rattle.urb_world.proofs.recovery.PendingNames.{in-without, length-names}
 use Rattle.urb_world.proofs.recovery.NodeLists.{in-numbers}
 use Rattle.urb_world.proofs.ticks.Membership.{IsIn, in-flat_map, in-map, in-split}
-use Rattle.urb_group.specs.GroupViews.{GroupView, IsSound, Shows}
-use Rattle.urb_world.specs.World.{World, stored}
 use Rattle.urb_names.proofs.FoundPairs.{no_pair, none_found}
 use Rattle.urb_names.proofs.OrderedPairs.{has_pair-behind, has_pair-head}
-use Rattle.urb_names.proofs.SameNames.{same_name-same}
-use Rattle.urb_names.specs.Names.{has_name, name, same_name}
-use Rattle.urb_names.specs.LabelsAndContents.{Content, IsLimits, Label, Limits}
-use Rattle.urb_names.specs.Nodes.{numbers_from}
-use Rattle.urb_names.specs.Pairs.{has_pair, message_of}
 use Rattle.urb_stable.proofs.KeptRules.{kept-all}
-use Rattle.urb_stable.specs.Entries.{Entry}
-use Rattle.urb_stable.specs.Fitting.{Kept, Rules, in_range}
-use Rattle.urb_stable.specs.Records.{cert, pend}
-use Rattle.urb_stable.specs.declared.record.Record.TheVariants.{Cert, Pend, PendCert}
 
 -- ---- names that stand once each are no more than the list that has all of them
 

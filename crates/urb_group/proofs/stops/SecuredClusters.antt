@@ -1,34 +1,21 @@
 -- Stores that last: a stop leaves in each, also after a failure shut it, only what it may leave of
 -- its node. Commands preserve this.
-use Rattle.std.proofs.Common.{Bool, Err, List, None, Ok, Option, Result, Some, ap, false, inl, inr}
-use Rattle.std.proofs.Common.{refl, subst, suc, sym, true, ℕ, ◌-◌, ◌<◌, ◌∙◌, ◌∷◌, ◌≡◌, ◌⊎◌, ⊎_elim}
-use Rattle.std.proofs.Common.{◌++◌, [], arith}
-use Rattle.std.specs.Prelude.{slice_get}
-use Rattle.std.proofs.lemmas.Bool.{and_parts, false≢true}
-use Rattle.urb_node.specs.Part.{Down, Node, Ready}
+use Rattle.urb_group.proofs.Common.{Applies, AsksStore, Bool, Clustered, Command, Down, Entry, Err}
+use Rattle.urb_group.proofs.Common.{Ghosts, Gives, IsContents, IsKnown, IsSecured, IsStoreOf, Keeps}
+use Rattle.urb_group.proofs.Common.{LeavesOf, List, MayLeave, Node, None, Ok, Option, Placed, Ready}
+use Rattle.urb_group.proofs.Common.{RestartsBy, Result, Rises, Some, StoreFault, StoreMoves}
+use Rattle.urb_group.proofs.Common.{StoresDraft, StoresHeld, [], and_parts, ap, arith, doubt, false}
+use Rattle.urb_group.proofs.Common.{false≢true, held_draft, inl, inr, is_down, is_fallen, refl}
+use Rattle.urb_group.proofs.Common.{slice_get, subst, suc, sym, true, view_of, ℕ, ⊎_elim, ◌++◌, ◌-◌}
+use Rattle.urb_group.proofs.Common.{◌<◌, ◌∙◌, ◌∷◌, ◌≡◌, ◌⊎◌}
 use Rattle.urb_node.specs.Replies.{Reply}
-use Rattle.urb_node.specs.Steps.{doubt, is_down}
-use Rattle.urb_stable.specs.Entries.{Entry}
-use Rattle.urb_stable.specs.KeptDrafts.{Keeps}
-use Rattle.urb_stable.specs.PlacedRecords.{Placed}
-use Rattle.urb_stable.specs.StableStorage.{IsContents}
-use Rattle.urb_stable.specs.declared.stable.Stable.{Ghosts}
-use Rattle.urb_stable.specs.declared.stable.StoreFault.{StoreFault}
 use Rattle.urb_group.proofs.stops.NodeStoreInvariant.{Beside, HoldsIn, Lasts, applies-beside}
 use Rattle.urb_group.proofs.stops.NodeStoreInvariant.{holds-in, set-cases, store-before}
 use Rattle.urb_group.proofs.calls.DraftsInCalls.{node-bounds}
 use Rattle.urb_group.proofs.stops.StockedClusters.{left-by-draft, lost, rose, took, unread}
-use Rattle.urb_world.proofs.stops.StockedNodes.{Rises}
 use Rattle.urb_group.proofs.stops.StockedSteps.{Stays, leaves-stay, store-stays}
 use Rattle.urb_group.proofs.stops.StoppedCalls.{leaves-draft}
-use Rattle.urb_group.specs.StoreQuestions.{Gives}
-use Rattle.urb_group.specs.GroupStores.{Clustered, held_draft}
-use Rattle.urb_group.specs.ClusterCalls.{Applies, AsksStore, RestartsBy, StoreMoves, StoresDraft}
-use Rattle.urb_group.specs.ClusterCalls.{StoresHeld, is_fallen}
-use Rattle.urb_group.specs.GroupViews.{view_of}
-use Rattle.urb_group.specs.StoreContents.{IsKnown, IsLasting, IsSecured, IsStoreOf, LeavesOf, WouldLeave}
-use Rattle.urb_world.specs.ProcessStops.{MayLeave}
-use Rattle.urb_group.specs.declared.command.Command.{Command}
+use Rattle.urb_group.specs.StoreContents.{IsLasting, WouldLeave}
 use Rattle.urb_group.specs.declared.command.Command.TheVariants as command
 
 -- the store is that of the node, and it lasts
@@ -103,7 +90,7 @@ asked-still g node before after answer gives h clean =
       certain = was.certain;
       doubtful = was.doubtful;
       only =
-          gives.lasts clean was.certain was.doubtful was.only;
+          (gives.lasts clean).contents was.certain was.doubtful was.only;
       may = was.may;
     }
   where

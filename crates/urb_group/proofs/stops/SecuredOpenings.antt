@@ -1,26 +1,15 @@
 -- The stores of new clusters, and of clusters that were opened, last.
-use Rattle.std.proofs.Common.{Err, IfOk, List, Ok, Result, Some, [], suc, sym, subst, ℕ}
-use Rattle.std.proofs.Common.{◌≡◌}
-use Rattle.std.specs.List.{All}
-use Rattle.std.specs.Prelude.{Vec, slice_get, slice_index_or}
-use Rattle.std.proofs.lemmas.List.Elements.{recursion_from_All}
-use Rattle.std.proofs.lemmas.Option.{get_or_from_slice_get}
-use Rattle.urb_names.proofs.Places.{get_some}
-use Rattle.urb_names.specs.LabelsAndContents.{Limits}
-use Rattle.urb_names.specs.declared.refusal.NoMemory.{NoMemory}
-use Rattle.urb_names.specs.declared.refusal.Refusal.{Refusal}
-use Rattle.urb_stable.specs.declared.stable.Stable.{Ghosts}
-use Rattle.urb_node.specs.Part.{opened_node}
+use Rattle.urb_group.proofs.Common.{All, Clustered, Err, Ghosts, IfOk, IsBlank, IsKnown, IsSecured}
+use Rattle.urb_group.proofs.Common.{Limits, List, NoMemory, Ok, OpensStores, Refusal, Result, Some}
+use Rattle.urb_group.proofs.Common.{Starts, Vec, [], get_or_from_slice_get, get_some, opened}
+use Rattle.urb_group.proofs.Common.{opened_node, recursion_from_All, slice_get, slice_index_or}
+use Rattle.urb_group.proofs.Common.{started, subst, suc, sym, ℕ, ◌≡◌}
 use Rattle.urb_group.proofs.stops.OpenedClusters.{given-at, given-store}
 use Rattle.urb_group.proofs.stops.SecuredClusters.{IsLastingOf, lasting-honest, lasting-known}
 use Rattle.urb_group.proofs.stops.SecuredClusters.{read-honest, secured-beside}
 use Rattle.urb_group.proofs.stops.StockedPlays.{all-at, blank-store}
-use Rattle.urb_group.specs.StoreQuestions.{IsBlank}
-use Rattle.urb_group.specs.GroupStores.{Clustered}
-use Rattle.urb_group.specs.ClusterCalls.{Starts}
-use Rattle.urb_group.specs.StoreOpenings.{OpensStores}
-use Rattle.urb_group.specs.StoreContents.{IsGenuine, IsKnown, IsSecured}
-use Rattle.urb_world.specs.World.{image_of, opened, started}
+use Rattle.urb_group.specs.StoreContents.{IsGenuine}
+use Rattle.urb_world.specs.World.{image_of}
 
 -- a new cluster over blank stores is secured, if each store is honest while its storage is clean
 pub starts-secured : {S A T : Type 0} (g : Ghosts S A) (size : Limits) (stores : List S)

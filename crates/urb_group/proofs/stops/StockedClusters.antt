@@ -1,26 +1,15 @@
 -- The stores of a cluster still match a world that its group shows, whatever a command does to
 -- them.
-use Rattle.std.proofs.Common.{Bool, Err, List, None, Ok, Option, Result, Some, [], ap, false, inl}
-use Rattle.std.proofs.Common.{inr, refl, subst, sym, true, ◌∙◌, ◌∷◌, ◌≡◌, ◌⊎◌, ⊎_elim, ◌++◌}
-use Rattle.std.proofs.lemmas.Bool.{false≢true}
-use Rattle.urb_node.specs.Part.{Down, Node, Ready, State}
+use Rattle.urb_group.proofs.Common.{Applies, Bool, Clustered, Command, Down, Entry, Err, Ghosts}
+use Rattle.urb_group.proofs.Common.{Gives, HoldsOf, IsContents, IsPlaced, IsStocked, IsStoreOf}
+use Rattle.urb_group.proofs.Common.{Keeps, LeavesOf, List, MayLeave, Node, None, Ok, Option, Placed}
+use Rattle.urb_group.proofs.Common.{Ready, Result, Rises, Some, StoreFault, [], ap, doubt, false}
+use Rattle.urb_group.proofs.Common.{false≢true, inl, inr, is_down, is_out_of_place, is_place, refl}
+use Rattle.urb_group.proofs.Common.{subst, sym, true, ⊎_elim, ◌++◌, ◌∙◌, ◌∷◌, ◌≡◌, ◌⊎◌}
+use Rattle.urb_node.specs.Part.{State}
 use Rattle.urb_node.specs.Replies.{Reply}
-use Rattle.urb_node.specs.Steps.{doubt, is_down}
-use Rattle.urb_stable.specs.Entries.{Entry}
-use Rattle.urb_stable.specs.KeptDrafts.{Keeps}
-use Rattle.urb_stable.specs.PlacedRecords.{Placed}
-use Rattle.urb_stable.specs.StableStorage.{IsContents, IsPlaced, is_out_of_place, is_place}
-use Rattle.urb_stable.specs.declared.stable.Stable.{Ghosts}
-use Rattle.urb_stable.specs.declared.stable.StoreFault.{StoreFault}
 use Rattle.urb_group.proofs.stops.NodeStoreInvariant.{Beside, Lasts, applies-beside}
-use Rattle.urb_world.proofs.stops.StockedNodes.{Rises}
 use Rattle.urb_group.proofs.stops.StockedSteps.{store-stays}
-use Rattle.urb_group.specs.StoreQuestions.{Gives}
-use Rattle.urb_group.specs.GroupStores.{Clustered}
-use Rattle.urb_group.specs.ClusterCalls.{Applies}
-use Rattle.urb_group.specs.StoreContents.{HoldsOf, IsStocked, IsStoreOf, LeavesOf}
-use Rattle.urb_world.specs.ProcessStops.{MayLeave}
-use Rattle.urb_group.specs.declared.command.Command.{Command}
 
 -- a stocked cluster, stated with a world that its group shows
 abbrev pub beside-stocked : {S A : Type 0} (g : Ghosts S A) (cluster : Clustered S)

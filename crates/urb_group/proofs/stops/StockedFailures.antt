@@ -1,22 +1,15 @@
 -- A stocked cluster after a store in memory that was armed to fail.
-use Rattle.std.proofs.Common.{Bool, None, Option, Some, false, inl, inr, length, refl, true, ℕ, ◌+◌}
-use Rattle.std.proofs.Common.{◌∙◌, ◌≡◌, ◌⊎◌, ⊎_elim, ap}
+use Rattle.urb_group.proofs.Common.{Bool, Breaks, BreaksArmed, Clustered, Down, Entry, Fail}
+use Rattle.urb_group.proofs.Common.{FailsHeld, Failure, IsStocked, IsStoreOf, Node, None, Option}
+use Rattle.urb_group.proofs.Common.{Placed, Some, ap, armed_with, false, held_draft, in_memory, inl}
+use Rattle.urb_group.proofs.Common.{inr, is_down, is_out_of_place, length, refl, true, ℕ, ⊎_elim}
+use Rattle.urb_group.proofs.Common.{◌+◌, ◌∙◌, ◌≡◌, ◌⊎◌}
 use Rattle.urb_group.proofs.stops.NodeStoreInvariant.{fell-beside, quiet-beside}
 use Rattle.urb_group.proofs.stops.StockedClusters.{beside-stocked, fallen, stock-lasts}
 use Rattle.urb_group.proofs.stops.StockedClusters.{stocked-beside}
-use Rattle.urb_group.specs.GroupStores.{Clustered, held_draft}
-use Rattle.urb_group.specs.ClusterCalls.{Breaks, BreaksArmed, FailsDraft, FailsHeld}
-use Rattle.urb_world.specs.MemoryStores.{in_memory}
-use Rattle.urb_world.specs.Step.{Fail}
-use Rattle.urb_group.specs.StoreContents.{IsStocked, IsStoreOf}
-use Rattle.urb_node.specs.Part.{Down, Node}
+use Rattle.urb_group.specs.ClusterCalls.{FailsDraft}
 use Rattle.urb_node.specs.Replies.{Reply}
-use Rattle.urb_node.specs.Steps.{is_down}
-use Rattle.urb_stable.specs.Entries.{Entry}
-use Rattle.urb_stable.specs.MemoryStores.{Memory, armed_with}
-use Rattle.urb_stable.specs.PlacedRecords.{Placed}
-use Rattle.urb_stable.specs.StableStorage.{is_out_of_place}
-use Rattle.urb_stable.specs.declared.memory.Failure.{Failure}
+use Rattle.urb_stable.specs.MemoryStores.{Memory}
 use Rattle.urb_stable.specs.declared.memory.Failure.TheVariants as failure
 
 -- what is certain stays, and the store has the record in doubt, or nothing of it

@@ -1,40 +1,23 @@
 -- The stores of a new cluster, after a failure on request, and after commands that were played.
-use Rattle.std.proofs.Common.{Err, List, None, Ok, Option, Result, Some, [], ap, arith, length}
-use Rattle.std.proofs.Common.{lt-ltb, nat_lt, true, ◌<◌}
-use Rattle.std.proofs.Common.{refl, subst, suc, sym, zero, ℕ, ◌∙◌, ◌∷◌, ◌≡◌, ◌≤◌, ⊎_elim, IfOk}
-use Rattle.std.specs.Prelude.{slice_get}
-use Rattle.std.specs.List.{All, AllByRecursion}
-use Rattle.std.specs.Prelude.{Vec}
-use Rattle.std.proofs.lemmas.Bool.{and_from, cases_lt}
+use Rattle.urb_group.proofs.Common.{All, AllByRecursion, AllHold, Applies, AreChosen, Clustered}
+use Rattle.urb_group.proofs.Common.{Command, Entry, Err, Ghosts, GoesOnIn, GroupView, IfOk, IsBlank}
+use Rattle.urb_group.proofs.Common.{IsContents, IsSound, IsStocked, IsStoreOf, Limits, List}
+use Rattle.urb_group.proofs.Common.{MayLeave, NoMemory, NodeView, None, Ok, Option, Plays, Result}
+use Rattle.urb_group.proofs.Common.{Shows, Some, Starts, Vec, World, [], and_from, ap, arith}
+use Rattle.urb_group.proofs.Common.{cases_lt, doubt, get_or_from_slice_get, get_some, is_node}
+use Rattle.urb_group.proofs.Common.{length, lt-ltb, nat_lt, no_view, recursion_from_All, refl}
+use Rattle.urb_group.proofs.Common.{reply_of, slice_get, started, subst, suc, survives, sym, true}
+use Rattle.urb_group.proofs.Common.{view_of, zero, ℕ, ⊎_elim, ◌<◌, ◌∙◌, ◌∷◌, ◌≡◌, ◌≤◌}
 use Rattle.std.proofs.lemmas.List.{get_or_past}
-use Rattle.std.proofs.lemmas.Option.{get_or_from_slice_get}
-use Rattle.urb_names.proofs.Places.{get_some}
-use Rattle.urb_node.specs.NodeViews.{no_view, NodeView}
-use Rattle.std.proofs.lemmas.List.Elements.{recursion_from_All}
-use Rattle.urb_names.specs.LabelsAndContents.{Limits}
-use Rattle.urb_names.specs.Nodes.{is_node}
-use Rattle.urb_names.specs.declared.refusal.NoMemory.{NoMemory}
-use Rattle.urb_names.specs.declared.refusal.Refusal.TheVariants as refusal
 use Rattle.urb_node.specs.Part.{State}
-use Rattle.urb_node.specs.Replies as told
-use Rattle.urb_node.specs.Steps.{doubt}
-use Rattle.urb_stable.specs.Entries.{Entry}
-use Rattle.urb_stable.specs.StableStorage.{IsContents}
-use Rattle.urb_stable.specs.declared.stable.Stable.{Ghosts}
-use Rattle.urb_group.specs.StoreQuestions.{IsBlank}
-use Rattle.urb_group.specs.GroupStores.{Clustered}
-use Rattle.urb_group.specs.ClusterCalls.{Applies, Starts}
-use Rattle.urb_group.specs.Commands.{reply_of}
-use Rattle.urb_group.specs.PlayedCommands.{Follows, Plays}
-use Rattle.urb_group.specs.GroupViews.{GroupView, IsSound, Shows, view_of}
-use Rattle.urb_group.specs.StoreContents.{AllHold, AreChosen, ContentsFit, IsStocked, IsStoreOf}
-use Rattle.urb_world.specs.ProcessStops.{GoesOnIn, MayLeave}
-use Rattle.urb_world.specs.World.{World, image_of, started}
-use Rattle.urb_group.specs.declared.command.Command.{Command}
+use Rattle.urb_group.specs.PlayedCommands.{Follows}
+use Rattle.urb_group.specs.StoreContents.{ContentsFit}
+use Rattle.urb_world.specs.World.{image_of}
 use Rattle.urb_group.specs.declared.reply.Reply.{Reply}
 use Rattle.urb_group.proofs.shown.AgreeingWorlds.{sound-kept}
 use Rattle.urb_group.proofs.calls.DraftsInCalls.{node-bounds}
-use Rattle.urb_world.proofs.stops.StoppedWorlds.{survives}
+use Rattle.urb_names.specs.declared.refusal.Refusal.TheVariants as refusal
+use Rattle.urb_node.specs.Replies as told
 
 -- ---- a new cluster
 

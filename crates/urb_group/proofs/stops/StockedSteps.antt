@@ -1,20 +1,14 @@
 -- Events that add no record to a node's list: what a stop may leave of the node stays, or grows by
 -- a held record.
-use Rattle.std.proofs.Common.{List, None, Option, Some, ap, false, inl, inr, refl, subst, sym, ℕ}
-use Rattle.std.proofs.Common.{◌∙◌, ◌≡◌, ◌⊎◌, ⊎_elim}
+use Rattle.urb_group.proofs.Common.{Commit, Entry, Event, Ghosts, IsContents, IsStoreOf, LeavesOf}
+use Rattle.urb_group.proofs.Common.{List, MayLeave, Node, None, Option, Ready, Restart, Some, World}
+use Rattle.urb_group.proofs.Common.{ap, doubt, false, inl, inr, is_down, refl, subst, sym, ℕ}
+use Rattle.urb_group.proofs.Common.{⊎_elim, ◌∙◌, ◌≡◌, ◌⊎◌}
 use Rattle.urb_world.proofs.steps.ArrivalCases.{arrive-cases}
 use Rattle.urb_world.proofs.steps.StepCases.{OutcomeCases, node_of, outcome-cases, step-nodes}
 use Rattle.urb_world.specs.EventEffects.{event_node}
-use Rattle.urb_world.specs.Step.{Commit, Event, Restart, step}
-use Rattle.urb_group.specs.StoreContents.{IsStoreOf, LeavesOf}
-use Rattle.urb_world.specs.ProcessStops.{MayLeave}
-use Rattle.urb_world.specs.World.{World}
-use Rattle.urb_node.specs.Part.{Node, Ready}
+use Rattle.urb_world.specs.Step.{step}
 use Rattle.urb_node.specs.Replies.{Reply}
-use Rattle.urb_node.specs.Steps.{doubt, is_down}
-use Rattle.urb_stable.specs.Entries.{Entry}
-use Rattle.urb_stable.specs.StableStorage.{IsContents}
-use Rattle.urb_stable.specs.declared.stable.Stable.{Ghosts}
 
 -- The node has the same records. If anything was held or in doubt, it still is. The node isn't up
 -- if it was down.

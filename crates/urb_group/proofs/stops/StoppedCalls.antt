@@ -1,31 +1,20 @@
 -- A stop inside a call of a cluster. In each store that was honest before, it leaves what a stop
 -- may leave of the store's node.
-use Rattle.std.proofs.Common.{Bool, List, None, Option, Some, ap, arith, false}
-use Rattle.std.proofs.Common.{inl, inr, refl, subst, suc, sym, true, ℕ, ◌+◌, ◌++◌, ◌-◌, ◌<◌, ◌∙◌}
-use Rattle.std.proofs.Common.{◌∷◌, ◌≡◌, ◌⊎◌, ⊎_elim, []}
-use Rattle.std.specs.Prelude.{length, slice_get}
-use Rattle.std.proofs.lemmas.Bool.{and_parts}
-use Rattle.urb_node.specs.Part.{Node}
+use Rattle.urb_group.proofs.Common.{Applies, AsksStore, Bool, BreaksArmed, Clustered, Command}
+use Rattle.urb_group.proofs.Common.{Entry, FailsHeld, Failure, Ghosts, IsContents, IsStocked}
+use Rattle.urb_group.proofs.Common.{IsStoreOf, LeavesOf, List, Node, None, Option, Placed}
+use Rattle.urb_group.proofs.Common.{RestartsBy, Some, StopLeaves, StoreMoves, StoresDraft}
+use Rattle.urb_group.proofs.Common.{StoresHeld, [], and_parts, ap, arith, armed_with, doubt, false}
+use Rattle.urb_group.proofs.Common.{held_draft, in_memory, inl, inr, is_down, is_fallen}
+use Rattle.urb_group.proofs.Common.{is_out_of_place, length, refl, slice_get, subst, suc, sym, true}
+use Rattle.urb_group.proofs.Common.{view_of, ℕ, ⊎_elim, ◌++◌, ◌+◌, ◌-◌, ◌<◌, ◌∙◌, ◌∷◌, ◌≡◌, ◌⊎◌}
 use Rattle.urb_node.specs.Replies.{Reply}
-use Rattle.urb_node.specs.Steps.{doubt, is_down}
-use Rattle.urb_stable.specs.Entries.{Entry}
-use Rattle.urb_stable.specs.MemoryStores.{Memory, armed_with}
-use Rattle.urb_stable.specs.PlacedRecords.{Placed}
-use Rattle.urb_stable.specs.StableStorage.{IsContents, is_out_of_place}
-use Rattle.urb_stable.specs.declared.memory.Failure.{Failure}
-use Rattle.urb_stable.specs.declared.stable.Stable.{Ghosts}
+use Rattle.urb_stable.specs.MemoryStores.{Memory}
 use Rattle.urb_group.proofs.calls.DraftsInCalls.{node-bounds}
 use Rattle.urb_group.proofs.stops.NodeStoreInvariant.{HoldsIn, holds-in, one-store, set-cases}
 use Rattle.urb_group.proofs.stops.NodeStoreInvariant.{store-before}
 use Rattle.urb_group.proofs.stops.StockedClusters.{asked-left, beside-stocked, left-by-draft}
-use Rattle.urb_group.proofs.stops.StockedFailures.{breaks-leaves, Leaves}
-use Rattle.urb_group.specs.GroupStores.{Clustered, held_draft}
-use Rattle.urb_group.specs.ClusterCalls.{Applies, AsksStore, BreaksArmed, FailsHeld}
-use Rattle.urb_group.specs.ClusterCalls.{RestartsBy, StoreMoves, StoresDraft, StoresHeld, is_fallen}
-use Rattle.urb_world.specs.MemoryStores.{in_memory}
-use Rattle.urb_group.specs.GroupViews.{view_of}
-use Rattle.urb_group.specs.StoreContents.{IsStocked, IsStoreOf, LeavesOf, StopLeaves}
-use Rattle.urb_group.specs.declared.command.Command.{Command}
+use Rattle.urb_group.proofs.stops.StockedFailures.{Leaves, breaks-leaves}
 use Rattle.urb_group.specs.declared.command.Command.TheVariants as command
 
 -- no store was asked

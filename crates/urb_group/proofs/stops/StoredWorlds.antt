@@ -1,24 +1,15 @@
 -- A world as its stores have it meets the rules, and holds all that the world holds.
-use Rattle.std.proofs.Common.{List, None, Option, Some, [], ap, append-nil, append_assoc, inl, inr, length, refl}
-use Rattle.std.proofs.Common.{subst, sym, true, ℕ, ◌++◌, ◌∙◌, ◌∷◌, ◌≡◌}
+use Rattle.urb_group.proofs.Common.{Begins, Entry, GroupView, Grows, IsContents, IsKept, Kept}
+use Rattle.urb_group.proofs.Common.{Limits, List, MayLeave, Node, NodeKept, NodeShort, None, Option}
+use Rattle.urb_group.proofs.Common.{Shows, Some, World, [], ap, append-nil, append_assoc, inl, inr}
+use Rattle.urb_group.proofs.Common.{is_node, length, pair-begins, refl, stored, subst, sym, true, ℕ}
+use Rattle.urb_group.proofs.Common.{◌++◌, ◌∙◌, ◌∷◌, ◌≡◌}
 use Rattle.urb_world.proofs.steps.JoinedRecord.{own_acks-kept}
-use Rattle.urb_world.proofs.steps.Growth.{pair-begins}
 use Rattle.urb_world.proofs.steps.OneNodeStep.{node-grows}
 use Rattle.urb_world.proofs.stops.AheadWorlds.{ahead-kept}
 use Rattle.urb_group.proofs.stops.StockedPlays.{outside-left}
-use Rattle.urb_group.specs.GroupViews.{GroupView, Shows}
-use Rattle.urb_world.specs.ProcessStops.{MayLeave}
-use Rattle.urb_world.specs.RunInvariant.{IsKept, NodeKept, NodeShort}
 use Rattle.urb_world.specs.StoresAhead.{IsAhead, IsAsStored, IsOrStandsFor}
-use Rattle.urb_world.specs.World.{World, stored}
-use Rattle.urb_names.specs.LabelsAndContents.{Limits}
-use Rattle.urb_names.specs.ListPrefixes.{Begins}
-use Rattle.urb_names.specs.Nodes.{is_node}
-use Rattle.urb_node.specs.Part.{Node}
-use Rattle.urb_stable.proofs.KeptRules.{Grows, kept-grow}
-use Rattle.urb_stable.specs.Entries.{Entry}
-use Rattle.urb_stable.specs.Fitting.{Kept}
-use Rattle.urb_stable.specs.StableStorage.{IsContents}
+use Rattle.urb_stable.proofs.KeptRules.{kept-grow}
 
 -- the records with the whole tail are ahead
 whole-ahead : (records tail : List Entry) → IsAhead records tail (records ++ tail)

@@ -1,28 +1,17 @@
 -- The four rules of one record after another are what makes records follow.
-use Rattle.std.proofs.Common.{Bool, List, [], ap, append-nil, append_assoc, arith}
-use Rattle.std.proofs.Common.{cond, drop, false, length, refl}
-use Rattle.std.proofs.Common.{slice_index_or, subst, suc, sym, take, true, ℕ, ◌&&◌, ◌++◌, ◌+◌, ◌<◌}
-use Rattle.std.proofs.Common.{◌==◌, ◌∙◌, ◌∷◌, ◌≡◌, ◌≤◌}
+use Rattle.urb_group.proofs.Common.{Bool, Cert, Content, Entry, GroupView, Joins, Label, Limits}
+use Rattle.urb_group.proofs.Common.{List, MayFollow, MayJoin, Pend, PendCert, Shows, World, []}
+use Rattle.urb_group.proofs.Common.{and_from, and_parts, ap, append-nil, append_assoc, arith, cond}
+use Rattle.urb_group.proofs.Common.{cond-false, drop, drop_all, false, false≢true, has_pair}
+use Rattle.urb_group.proofs.Common.{is_node, keeps_a, keeps_b, keeps_c, length, pend, refl, shown}
+use Rattle.urb_group.proofs.Common.{slice_index_or, stored, subst, suc, sym, take, true, updated, ℕ}
+use Rattle.urb_group.proofs.Common.{◌&&◌, ◌++◌, ◌+◌, ◌<◌, ◌==◌, ◌∙◌, ◌∷◌, ◌≡◌, ◌≤◌}
 use Rattle.std.proofs.Math.Seq.{take-suc}
-use Rattle.std.proofs.lemmas.Bool.{and_from, and_parts, cond-false, false≢true}
-use Rattle.std.proofs.lemmas.List.{drop_all}
-use Rattle.urb_names.specs.LabelsAndContents.{Content, Label, Limits}
-use Rattle.urb_names.specs.Nodes.{is_node}
-use Rattle.urb_names.specs.Pairs.{has_pair}
-use Rattle.urb_stable.specs.Entries.{Entry}
-use Rattle.urb_stable.specs.Fitting.{keeps_a, keeps_b, keeps_c}
-use Rattle.urb_stable.specs.Records.{pend}
-use Rattle.urb_stable.specs.declared.record.Record.TheVariants.{Cert, Pend, PendCert}
 use Rattle.urb_group.proofs.shown.ShownWorlds.{is-node, no-node}
 use Rattle.urb_group.proofs.tails.TailRecords.{from-here}
-use Rattle.urb_group.specs.GroupViews.{GroupView, Shows}
-use Rattle.urb_group.specs.PlaceViews.{shown}
-use Rattle.urb_world.specs.RunInvariant.{MayJoin}
-use Rattle.urb_world.specs.StoresAhead.{MayFollow}
 use Rattle.urb_group.specs.TailQuestions.{TellsTail}
-use Rattle.urb_world.specs.World.{World, stored, updated}
 use Rattle.urb_group.specs.declared.node_moves.Node.{Node as Place}
-use Rattle.urb_group.specs.internal.TailChecks.{Joins, may_follow, may_join}
+use Rattle.urb_group.specs.internal.TailChecks.{may_follow, may_join}
 
 -- ---- one record
 

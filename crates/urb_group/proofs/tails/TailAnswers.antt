@@ -1,33 +1,25 @@
 -- What the parts of a check say of one record, together.
-use Rattle.std.proofs.Common.{Bool, List, None, Option, Some, [], ap, arith, cond, eq-eqb, false}
-use Rattle.std.proofs.Common.{is_none, is_some, length, length-append, ne_eqb, not}
-use Rattle.std.proofs.Common.{refl}
-use Rattle.std.proofs.Common.{slice_index_or, subst, suc, sym, true, ℕ, ⊎_elim, ◌&&◌, ◌++◌, ◌+◌}
-use Rattle.std.proofs.Common.{◌-◌, ◌<◌, ◌==◌, ◌||◌, ◌∙◌, ◌∷◌, ◌≡◌, ◌⊎◌}
-use Rattle.std.proofs.lemmas.Bool.{cond-false, cond-true, false≢true}
+use Rattle.urb_group.proofs.Common.{Bool, Cert, Content, Entry, FindsMessage, IsGroup, Joins, Label}
+use Rattle.urb_group.proofs.Common.{Limits, List, Node, None, Option, Pend, PendCert, SenderHolds}
+use Rattle.urb_group.proofs.Common.{Shows, ShowsAt, Some, World, [], ap, arith, cert, cond}
+use Rattle.urb_group.proofs.Common.{cond-false, cond-true, eq-eqb, false, false≢true, has_name}
+use Rattle.urb_group.proofs.Common.{has_pair, in_range, is_next_own, is_none, is_some, keeps_a}
+use Rattle.urb_group.proofs.Common.{keeps_b, keeps_c, known_held, length, memory_in, message_of}
+use Rattle.urb_group.proofs.Common.{name_of, ne_eqb, not, of_client, option_or, own, pend, refl}
+use Rattle.urb_group.proofs.Common.{shown, slice_index_or, stored, subst, suc, sym, true, updated}
+use Rattle.urb_group.proofs.Common.{ℕ, ⊎_elim, ◌&&◌, ◌++◌, ◌+◌, ◌-◌, ◌<◌, ◌==◌, ◌||◌, ◌∙◌, ◌∷◌, ◌≡◌}
+use Rattle.urb_group.proofs.Common.{◌⊎◌}
+use Rattle.std.proofs.Common.{length-append}
 use Rattle.std.specs.Bool.{MatchBool}
-use Rattle.std.specs.Option.{option_or}
-use Rattle.urb_names.specs.LabelsAndContents.{Content, Label, Limits}
-use Rattle.urb_names.specs.Names.{has_name}
-use Rattle.urb_names.specs.Pairs.{has_pair, message_of, own}
-use Rattle.urb_node.specs.CallEffects.{CountsOwn, FindsMessage, IsCertified}
-use Rattle.urb_node.specs.Part.{Node}
-use Rattle.urb_stable.specs.Entries.{Entry, name_of}
-use Rattle.urb_stable.specs.Fitting.{in_range, is_next_own, keeps_a, keeps_b, keeps_c, keeps_d}
-use Rattle.urb_stable.specs.Fitting.{known_held}
-use Rattle.urb_stable.specs.Records.{cert, pend}
-use Rattle.urb_stable.specs.declared.record.Record.TheVariants.{Cert, Pend, PendCert}
+use Rattle.urb_node.specs.CallEffects.{CountsOwn, IsCertified}
+use Rattle.urb_stable.specs.Fitting.{keeps_d}
 use Rattle.urb_group.proofs.tails.TailHolders.{majority-same, pair-found, pair-last, shows-read}
 use Rattle.urb_group.proofs.tails.TailRecords.{client-append, found-behind, named-behind}
 use Rattle.urb_group.proofs.tails.TailRecords.{own-behind}
-use Rattle.urb_group.specs.GroupViews.{Shows}
-use Rattle.urb_group.specs.PlaceViews.{memory_in, shown}
-use Rattle.urb_world.specs.World.{World, stored, updated}
 use Rattle.urb_group.specs.declared.node_moves.Node.{Node as Place}
-use Rattle.urb_group.specs.internal.PlaceInvariant.{IsGroup, ShowsAt}
 use Rattle.urb_group.specs.internal.TailChecks.{CountsClient, FindsBehind, IsNamedBehind}
-use Rattle.urb_group.specs.internal.TailChecks.{IsNextBehind, Joins, KeepsA, KeepsB, KeepsC, KeepsD}
-use Rattle.urb_group.specs.internal.TailChecks.{SenderHolds, WouldPass, of_client}
+use Rattle.urb_group.specs.internal.TailChecks.{IsNextBehind, KeepsA, KeepsB, KeepsC, KeepsD}
+use Rattle.urb_group.specs.internal.TailChecks.{WouldPass}
 
 -- the record holds a pair
 abbrev pub HoldsPair : Entry → Type 0

@@ -1,30 +1,22 @@
 -- Which nodes hold a pair, and how many would if one more did.
-use Rattle.std.proofs.Common.{Bool, List, Some, [], ap, arith, cond, count_by, eq-eqb, false}
-use Rattle.std.proofs.Common.{length, map}
-use Rattle.std.proofs.Common.{ne_eqb, refl, slice_index_or, suc, sym, true, zero, ℕ, ◌++◌, ◌+◌}
-use Rattle.std.proofs.Common.{◌<◌, ◌==◌, ◌||◌, ◌∙◌, ◌∷◌, ◌≡◌, ◌≤◌}
-use Rattle.std.proofs.lemmas.List.{length-map}
-use Rattle.std.proofs.lemmas.List.Sums.{sum_by-append, sum_by-cons}
-use Rattle.urb_names.proofs.FoundPairs.{has_pair-found, has_pair-itself, has_pair-left}
+use Rattle.urb_group.proofs.Common.{Bool, Content, Entry, IsGroup, Label, Limits, List, NodeView}
+use Rattle.urb_group.proofs.Common.{SenderHolds, Shows, ShowsAt, Some, World, [], ap, arith, cond}
+use Rattle.urb_group.proofs.Common.{count_by, eq-eqb, false, has_pair, has_pair-found}
+use Rattle.urb_group.proofs.Common.{has_pair-left, held_by_majority, length, length-map, map}
+use Rattle.urb_group.proofs.Common.{memory_in, message_of, ne_eqb, no_view, numbers_from, pend}
+use Rattle.urb_group.proofs.Common.{pend-append, refl, shown, slice_index_or, stored, suc}
+use Rattle.urb_group.proofs.Common.{sum_by-append, sym, true, updated, view_at, would_hold, zero, ℕ}
+use Rattle.urb_group.proofs.Common.{◌++◌, ◌+◌, ◌<◌, ◌==◌, ◌||◌, ◌∙◌, ◌∷◌, ◌≡◌, ◌≤◌}
+use Rattle.std.proofs.lemmas.List.Sums.{sum_by-cons}
+use Rattle.urb_names.proofs.FoundPairs.{has_pair-itself}
 use Rattle.urb_names.proofs.SameNames.{majority_grows}
-use Rattle.urb_names.specs.LabelsAndContents.{Content, Label, Limits}
-use Rattle.urb_names.specs.Nodes.{majority_passes, numbers_from}
-use Rattle.urb_names.specs.Pairs.{has_pair, message_of}
+use Rattle.urb_names.specs.Nodes.{majority_passes}
 use Rattle.urb_node.specs.CallEffects.{Holds}
-use Rattle.urb_node.specs.NodeViews.{NodeView, no_view}
-use Rattle.urb_stable.proofs.JoinedRecords.{pend-append}
 use Rattle.urb_names.proofs.TruthValues.{both_ways}
-use Rattle.urb_stable.specs.Entries.{Entry}
-use Rattle.urb_stable.specs.Fitting.{held_by_majority}
-use Rattle.urb_stable.specs.Records.{pend}
 use Rattle.urb_group.proofs.shown.NodeAnswers.{was_read}
 use Rattle.urb_group.proofs.shown.NodeMoves.{place_shows}
-use Rattle.urb_group.specs.GroupViews.{Shows}
-use Rattle.urb_group.specs.PlaceViews.{memory_in, shown, view_at}
-use Rattle.urb_world.specs.World.{World, stored, updated}
 use Rattle.urb_group.specs.declared.node_moves.Node.{Node as Place}
-use Rattle.urb_group.specs.internal.PlaceInvariant.{IsGroup, ShowsAt}
-use Rattle.urb_group.specs.internal.TailChecks.{SenderHolds, WouldHold, would_hold}
+use Rattle.urb_group.specs.internal.TailChecks.{WouldHold}
 use Rattle.urb_names.proofs.Places.{numbers_more}
 
 -- ---- one node

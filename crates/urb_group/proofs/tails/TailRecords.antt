@@ -1,21 +1,14 @@
 -- What a list of records says, from its first record on, and behind other records.
-use Rattle.std.proofs.Common.{Bool, List, None, Option, Some, [], ap, arith, cond, drop}
-use Rattle.std.proofs.Common.{drop-cons, false, length, length-append, refl, slice_index_or, suc}
-use Rattle.std.proofs.Common.{sym, true, ℕ}
-use Rattle.std.proofs.Common.{◌++◌, ◌+◌, ◌<◌, ◌==◌, ◌||◌, ◌∙◌, ◌∷◌, ◌≡◌, ◌≤◌}
-use Rattle.std.proofs.lemmas.List.{drop_all}
+use Rattle.urb_group.proofs.Common.{Bool, Cert, Content, Entry, Label, List, None, Option, Pend}
+use Rattle.urb_group.proofs.Common.{PendCert, Some, [], ap, arith, cert, cond, drop, drop-cons}
+use Rattle.urb_group.proofs.Common.{drop_all, false, has_name, length, message_of, of_client}
+use Rattle.urb_group.proofs.Common.{option_or, own, pend, pend-append, refl, same_name}
+use Rattle.urb_group.proofs.Common.{slice_index_or, suc, sum_by-append, sym, true, ℕ, ◌++◌, ◌+◌}
+use Rattle.urb_group.proofs.Common.{◌<◌, ◌==◌, ◌||◌, ◌∙◌, ◌∷◌, ◌≡◌, ◌≤◌}
+use Rattle.std.proofs.Common.{length-append}
 use Rattle.std.proofs.lemmas.List.Folds.{list_any-append}
-use Rattle.std.proofs.lemmas.List.Sums.{sum_by-append}
-use Rattle.std.specs.Option.{option_or}
 use Rattle.urb_names.proofs.FoundPairs.{message_of-behind, message_of-more, own-append}
-use Rattle.urb_names.specs.LabelsAndContents.{Content, Label}
-use Rattle.urb_names.specs.Names.{has_name, same_name}
-use Rattle.urb_names.specs.Pairs.{message_of, own}
-use Rattle.urb_stable.proofs.JoinedRecords.{cert-append, pend-append}
-use Rattle.urb_stable.specs.Entries.{Entry}
-use Rattle.urb_stable.specs.Records.{cert, pend}
-use Rattle.urb_stable.specs.declared.record.Record.TheVariants.{Cert, Pend, PendCert}
-use Rattle.urb_group.specs.internal.TailChecks.{of_client}
+use Rattle.urb_stable.proofs.JoinedRecords.{cert-append}
 
 -- ---- a walk over a list
 

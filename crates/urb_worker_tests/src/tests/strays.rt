@@ -169,9 +169,9 @@ fn a_desk_tells_nothing_of_another_job(rt: HostRuntime) -> Result<(), Fail> {
 }
 
 #[test]
-fn a_desk_tells_of_a_job_that_did_not_run(rt: HostRuntime) -> Result<(), Fail> {
+fn a_desk_says_down_of_a_job_that_did_not_run(rt: HostRuntime) -> Result<(), Fail> {
     let opened = open_group(rt.alloc(), 1).ok_or("memory")?;
-    let refused = ask_desk::<Brand, _>(&rt, rt.alloc(), opened, Fault::Misrouted, 2);
+    let refused = ask_desk::<Brand, _>(&rt, rt.alloc(), opened, Fault::Misrouted, 3);
     assert_eq!(rt; refused, Some(true));
     Ok(())
 }

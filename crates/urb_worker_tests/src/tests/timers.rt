@@ -1,6 +1,5 @@
 //! The timer, beside a thread that takes its ticks and sets the stop.
 
-use crossbeam_channel::{Receiver, Sender};
 use std::alloc::Global;
 use std::marker::Brand;
 use std::sync::Wait;
@@ -8,7 +7,7 @@ use std::test::Fail;
 use std::thread;
 use std::thread::Threads;
 use std::time::{Clock, Duration, Instant};
-use urb_link::{Stop, TickQueues, Ticket, timer};
+use urb_link::{NodeJobs, Stop, TickQueues, Ticket, open_channels, timer};
 use urb_turn::Job;
 
 // Whether a ticket is a tick of this node, and nobody waits for its answer.
@@ -19,18 +18,18 @@ fn is_tick_at(ticket: &Ticket<Brand>, number: u8) -> bool {
 }
 
 // Whether the next ticket is a tick of this node.
-fn is_next_at<R: Wait>(rt: &R, jobs: &Receiver<Ticket<Brand>>, number: u8) -> bool {
-    match jobs.recv(rt) {
+fn is_next_at<R: Wait>(rt: &R, jobs: &NodeJobs<Brand>, number: u8) -> bool {
+    match jobs.receiver().recv(rt) {
         Ok(ticket) => is_tick_at(&ticket, number),
         Err(_) => false,
     }
 }
 
 // Whether all tickets that are left are ticks of this node.
-fn are_ticks_at<R: Wait>(rt: &R, jobs: &Receiver<Ticket<Brand>>, number: u8) -> bool {
+fn are_ticks_at<R: Wait>(rt: &R, jobs: &NodeJobs<Brand>, number: u8) -> bool {
     let mut are_ticks = true;
     for _i in 0..64u8 {
-        let Ok(ticket) = jobs.try_recv(rt) else {
+        let Ok(ticket) = jobs.receiver().try_recv(rt) else {
             break;
         };
         are_ticks = are_ticks && is_tick_at(&ticket, number);
@@ -38,23 +37,8 @@ fn are_ticks_at<R: Wait>(rt: &R, jobs: &Receiver<Ticket<Brand>>, number: u8) -> 
     are_ticks
 }
 
-// A queue for each of `nodes` nodes, and the workers' ends of the channels.
-fn make_queues(
-    alloc: Global,
-    nodes: u8,
-) -> Option<(Vec<Sender<Ticket<Brand>>>, Vec<Receiver<Ticket<Brand>>>)> {
-    let mut lines = Vec::new(alloc);
-    let mut ends = Vec::new(alloc);
-    for _ in 0..nodes {
-        let (line, end) = crossbeam_channel::bounded(alloc, 64).ok()?;
-        lines.push(line).ok()?;
-        ends.push(end).ok()?;
-    }
-    Some((lines, ends))
-}
-
 // Whether the next ticket of each node is a tick of this node.
-fn come_at_all<R: Wait>(rt: &R, ends: &[Receiver<Ticket<Brand>>]) -> bool {
+fn come_at_all<R: Wait>(rt: &R, ends: &[NodeJobs<Brand>]) -> bool {
     let mut number: u8 = 0;
     let mut have_come = true;
     for jobs in ends {
@@ -65,7 +49,7 @@ fn come_at_all<R: Wait>(rt: &R, ends: &[Receiver<Ticket<Brand>>]) -> bool {
 }
 
 // Whether all tickets that are left at each node are ticks of this node.
-fn are_left_at_all<R: Wait>(rt: &R, ends: &[Receiver<Ticket<Brand>>]) -> bool {
+fn are_left_at_all<R: Wait>(rt: &R, ends: &[NodeJobs<Brand>]) -> bool {
     let mut number: u8 = 0;
     let mut are_ticks = true;
     for jobs in ends {
@@ -84,7 +68,7 @@ fn ticks<R: Threads + Wait + Clock + Sync>(
     millis: u32,
     count: u8,
 ) -> Option<(bool, Duration)> {
-    let (lines, ends) = make_queues(alloc, 7)?;
+    let (lines, ends) = open_channels(alloc, 7, 64).ok()?;
     let stop = Stop::new();
     let (stop, lines, ends) = (&stop, lines.as_slice(), ends.as_slice());
     let queues = TickQueues::of(lines)?;
@@ -131,15 +115,6 @@ fn a_timer_ticks_at_each_of_seven_nodes_in_its_time(rt: HostRuntime) -> Result<(
     assert!(rt; are_ticks);
     // The second tick comes after two times that.
     assert!(rt; took >= Duration::from_millis(40), "{took:?}");
-    Ok(())
-}
-
-#[test]
-fn a_timer_takes_no_queue_of_an_eighth_node(rt: HostRuntime) -> Result<(), Fail> {
-    let (seven, _ends) = make_queues(rt.alloc(), 7).ok_or("memory")?;
-    let (eight, _others) = make_queues(rt.alloc(), 8).ok_or("memory")?;
-    assert!(rt; TickQueues::of(seven.as_slice()).is_some());
-    assert!(rt; TickQueues::of(eight.as_slice()).is_none());
     Ok(())
 }
 

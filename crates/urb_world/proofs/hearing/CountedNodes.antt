@@ -1,16 +1,11 @@
 -- Acknowledgements when a node is counted, and when a record is stored.
-use Rattle.std.proofs.Common.{List, None, Option, Some, [], eq-eqb, eqb-true, inl, inr, refl, true}
-use Rattle.std.proofs.Common.{ℕ, ⊎_elim, ◌&&◌, ◌==◌, ◌||◌, ◌∷◌, ◌≡◌, ◌⊎◌}
-use Rattle.std.proofs.lemmas.Bool.{and_from, and_parts, cond_both, false≢true, or_cases, or_left}
-use Rattle.std.proofs.lemmas.Bool.{or_right}
-use Rattle.urb_names.proofs.SameNames.{same_name-same, same_name-true}
-use Rattle.urb_names.specs.Acknowledgements.{acked, with_ack}
-use Rattle.urb_names.specs.Names.{same_message, same_name}
-use Rattle.urb_names.specs.LabelsAndContents.{Content, Label}
-use Rattle.urb_names.specs.Pairs.{has_pair}
+use Rattle.urb_world.proofs.Common.{Cause, Content, Label, List, None, Option, Some, [], acked}
+use Rattle.urb_world.proofs.Common.{and_from, and_parts, cond_both, eq-eqb, eqb-true, false≢true}
+use Rattle.urb_world.proofs.Common.{has_pair, inl, inr, or_cases, or_left, or_right, refl}
+use Rattle.urb_world.proofs.Common.{same_message, same_name, same_name-same, same_name-true, true}
+use Rattle.urb_world.proofs.Common.{with_ack, with_cause, with_heard, ℕ, ⊎_elim, ◌&&◌, ◌==◌, ◌||◌}
+use Rattle.urb_world.proofs.Common.{◌∷◌, ◌≡◌, ◌⊎◌}
 use Rattle.urb_node.specs.Part.{self_acks}
-use Rattle.urb_node.specs.Steps.{with_cause, with_heard}
-use Rattle.urb_node.specs.declared.cause.Cause.{Cause}
 
 -- ---- one node more
 

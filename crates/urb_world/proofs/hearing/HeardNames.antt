@@ -1,39 +1,27 @@
 -- Only certificates of pending names are heard, in every world of a run. So a stored record's
 -- packets report what was heard.
-use Rattle.std.proofs.Common.{Bool, List, None, Option, Some, [], ap, eq-eqb, eqb-true, false}
-use Rattle.std.proofs.Common.{is_none, is_some, map, not, refl, subst, sym, true, ℕ, ⊎_elim, ◌&&◌}
-use Rattle.std.proofs.Common.{◌++◌, ◌==◌, ◌||◌, ◌∙◌, ◌∷◌, ◌≡◌}
-use Rattle.std.proofs.lemmas.Bool.{and_parts, cond-true, cond_both, false_from_ne_true, false≢true}
-use Rattle.std.specs.List.{AllByRecursion}
+use Rattle.urb_world.proofs.Common.{AllByRecursion, Bool, Carried, Cause, Cert, Commit, Content}
+use Rattle.urb_world.proofs.Common.{Done, Down, Entry, Event, Flags, IsReached, IsStart, Label}
+use Rattle.urb_world.proofs.Common.{Limits, List, Node, None, Of_images, Of_new, Option, Pend}
+use Rattle.urb_world.proofs.Common.{PendCert, Ready, Refused, Reply, Some, State, StateKept, Stored}
+use Rattle.urb_world.proofs.Common.{Storing, World, [], acked, and_parts, answers, ap, arrives}
+use Rattle.urb_world.proofs.Common.{at_node, cert, commits, cond-true, cond_both, counts, done}
+use Rattle.urb_world.proofs.Common.{eq-eqb, eqb-true, false, false_from_ne_true, false≢true}
+use Rattle.urb_world.proofs.Common.{has_name, heard_after, heard_of, hears, image_of, in_range}
+use Rattle.urb_world.proofs.Common.{is_heard_of, is_node, is_none, is_some, keeps_a, keeps_record}
+use Rattle.urb_world.proofs.Common.{majority_passes, map, message_of, message_of-more}
+use Rattle.urb_world.proofs.Common.{message_of-new, next_position, not, others, pend, pend-append}
+use Rattle.urb_world.proofs.Common.{refl, run, same_record, says_certified, step, subst, sym, takes}
+use Rattle.urb_world.proofs.Common.{true, with_ack, with_heard, world_after, ℕ, ⊎_elim, ◌&&◌, ◌++◌}
+use Rattle.urb_world.proofs.Common.{◌==◌, ◌||◌, ◌∙◌, ◌∷◌, ◌≡◌}
 use Rattle.urb_world.proofs.hearing.CountedNodes.{acked-cases, acked-itself, heard-cases}
 use Rattle.urb_world.proofs.steps.Runs.{reached-keeps}
 use Rattle.urb_world.specs.HeardCertificates.{HearsOfPending, SaysWhatWasHeard}
-use Rattle.urb_world.specs.RunInvariant.{StateKept}
-use Rattle.urb_world.specs.Step.{Commit, Event, IsReached, IsStart, Of_images, Of_new, at_node, run}
-use Rattle.urb_world.specs.Step.{step, world_after}
-use Rattle.urb_world.specs.World.{World, image_of, stored}
-use Rattle.urb_names.proofs.FoundPairs.{message_of-more, message_of-new}
-use Rattle.urb_names.specs.Acknowledgements.{acked, with_ack}
-use Rattle.urb_names.specs.CarriedPackets.{Carried, is_heard_of, others, says_certified}
-use Rattle.urb_names.specs.Names.{has_name}
-use Rattle.urb_names.specs.LabelsAndContents.{Content, Label, Limits}
-use Rattle.urb_names.specs.Nodes.{is_node, majority_passes}
-use Rattle.urb_names.specs.Pairs.{message_of}
-use Rattle.urb_names.specs.declared.flags.Flags.{Flags}
-use Rattle.urb_node.specs.Part.{Down, Node, Ready, State, Storing}
-use Rattle.urb_node.specs.Replies.{Done, Refused, Reply, Stored}
-use Rattle.urb_node.specs.Steps.{answers, arrives, commits, counts, done, heard_after, heard_of}
-use Rattle.urb_node.specs.Steps.{hears, keeps_record, next_position, packets_of, same_record, takes}
-use Rattle.urb_node.specs.Steps.{with_heard}
-use Rattle.urb_node.specs.declared.cause.Cause.{Cause}
-use Rattle.urb_stable.proofs.JoinedRecords.{pend-append}
-use Rattle.urb_stable.specs.Entries.{Entry}
-use Rattle.urb_stable.specs.Fitting.{in_range, keeps_a}
-use Rattle.urb_stable.specs.Records.{cert, pend}
-use Rattle.urb_stable.specs.declared.record.Record.TheVariants.{Cert, Pend, PendCert}
-use Rattle.urb_names.specs.declared.refusal.Refusal.TheVariants as refusal
+use Rattle.urb_world.specs.World.{stored}
+use Rattle.urb_node.specs.Steps.{packets_of}
 use Rattle.urb_world.proofs.steps.StepCases.{OutcomeCases, node_of, outcome-cases, step-nodes}
 use Rattle.urb_world.specs.EventEffects.{event_node}
+use Rattle.urb_names.specs.declared.refusal.Refusal.TheVariants as refusal
 
 -- ---- pending names
 

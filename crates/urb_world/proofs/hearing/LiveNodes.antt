@@ -1,26 +1,15 @@
 -- What a node has heard is true, and the node counts itself. Each part of a step keeps this.
-use Rattle.std.proofs.Common.{List, None, Option, Some, [], append-nil, false, is_none, not, subst}
-use Rattle.std.proofs.Common.{sym, true, ℕ, ⊎_elim, ◌++◌, ◌==◌, ◌||◌, ◌∙◌, ◌∷◌, ◌≡◌}
-use Rattle.std.proofs.lemmas.Bool.{cond_both, false≢true}
+use Rattle.urb_world.proofs.Common.{Cause, Cert, Content, Down, Entry, Flags, Label, Limits, List}
+use Rattle.urb_world.proofs.Common.{Node, None, Option, Pend, PendCert, Ready, Reply, Some, State}
+use Rattle.urb_world.proofs.Common.{Storing, [], acked, acks_after, answers, append-nil, arrives}
+use Rattle.urb_world.proofs.Common.{cert, cond_both, counts, doubt, drafts, false, false≢true}
+use Rattle.urb_world.proofs.Common.{has_name, has_pair, has_pair-last, heard_after, heard_of, hears}
+use Rattle.urb_world.proofs.Common.{is_down, is_none, keeps_record, majority_passes, message_of}
+use Rattle.urb_world.proofs.Common.{name_of, not, opened_node, packet_from, pend, pend-append}
+use Rattle.urb_world.proofs.Common.{says_certified, subst, sym, true, with_ack, with_cause}
+use Rattle.urb_world.proofs.Common.{with_heard, ℕ, ⊎_elim, ◌++◌, ◌==◌, ◌||◌, ◌∙◌, ◌∷◌, ◌≡◌}
 use Rattle.urb_world.proofs.hearing.CountedNodes.{acked-cases, acked-itself, acked-stays}
 use Rattle.urb_world.proofs.hearing.CountedNodes.{cause-stays, heard-cases, itself-acked}
-use Rattle.urb_names.proofs.FoundPairs.{has_pair-last}
-use Rattle.urb_names.specs.Acknowledgements.{acked, with_ack}
-use Rattle.urb_names.specs.CarriedPackets.{says_certified}
-use Rattle.urb_names.specs.Names.{has_name}
-use Rattle.urb_names.specs.LabelsAndContents.{Content, Label, Limits}
-use Rattle.urb_names.specs.Nodes.{majority_passes}
-use Rattle.urb_names.specs.Pairs.{has_pair, message_of}
-use Rattle.urb_names.specs.declared.flags.Flags.{Flags}
-use Rattle.urb_node.specs.Part.{Down, Node, Ready, State, Storing, opened_node, packet_from}
-use Rattle.urb_node.specs.Replies.{Reply}
-use Rattle.urb_node.specs.Steps.{acks_after, answers, arrives, counts, doubt, drafts, heard_after}
-use Rattle.urb_node.specs.Steps.{heard_of, hears, is_down, keeps_record, with_cause, with_heard}
-use Rattle.urb_node.specs.declared.cause.Cause.{Cause}
-use Rattle.urb_stable.proofs.JoinedRecords.{pend-append}
-use Rattle.urb_stable.specs.Entries.{Entry, name_of}
-use Rattle.urb_stable.specs.Records.{cert, pend}
-use Rattle.urb_stable.specs.declared.record.Record.TheVariants.{Cert, Pend, PendCert}
 
 -- each certificate that was heard is stored at the node that it was heard of
 abbrev pub HeardTrue : (ℕ → List Entry) → List (Label × ℕ) → Type 0

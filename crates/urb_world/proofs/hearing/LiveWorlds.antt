@@ -1,20 +1,16 @@
 -- In every world of a run, what nodes have heard is true, and each node that is up counts itself.
 -- No records belong to a node 0.
-use Rattle.std.proofs.Common.{Bool, List, [], cond, eqb-true, false, ltb-true, nat_lt, refl, subst}
-use Rattle.std.proofs.Common.{suc, sym, true, ℕ, ◌==◌, ◌||◌, ◌∷◌, ◌≡◌, ◌≤◌, arith, None, ap, eq-eqb}
-use Rattle.std.proofs.Common.{◌++◌, ◌∙◌}
-use Rattle.std.proofs.lemmas.Bool.{and_parts, false≢true}
+use Rattle.urb_world.proofs.Common.{Bool, Event, IsReached, IsStart, List, Node, None, Of_images}
+use Rattle.urb_world.proofs.Common.{Of_new, Reply, World, [], and_parts, ap, arith, broadcast_after}
+use Rattle.urb_world.proofs.Common.{cond, eq-eqb, eqb-true, false, false≢true, is_down, is_node}
+use Rattle.urb_world.proofs.Common.{ltb-true, majority_passes, nat_lt, refl, run, step, subst, suc}
+use Rattle.urb_world.proofs.Common.{sym, true, ℕ, ◌++◌, ◌==◌, ◌||◌, ◌∙◌, ◌∷◌, ◌≡◌, ◌≤◌}
 use Rattle.urb_world.proofs.steps.Growth.{certificate-begins, step-goes_on}
-use Rattle.urb_world.proofs.hearing.LiveNodes.{LeadsLive, NodeLive, live-arrives, live-grows}
-use Rattle.urb_world.proofs.hearing.LiveNodes.{live-opened, DraftTrue, live-drafts, live-stored}
-use Rattle.urb_world.proofs.hearing.LiveNodes.{live-down, live-up}
+use Rattle.urb_world.proofs.hearing.LiveNodes.{DraftTrue, LeadsLive, NodeLive, live-arrives}
+use Rattle.urb_world.proofs.hearing.LiveNodes.{live-down, live-drafts, live-grows, live-opened}
+use Rattle.urb_world.proofs.hearing.LiveNodes.{live-stored, live-up}
 use Rattle.urb_world.proofs.steps.ConfirmedPackets.{borne-certificate}
-use Rattle.urb_world.specs.Step.{Event, IsReached, IsStart, Of_images, Of_new, run, step}
-use Rattle.urb_world.specs.World.{World, stored}
-use Rattle.urb_names.specs.Nodes.{is_node, majority_passes}
-use Rattle.urb_node.specs.Part.{Node}
-use Rattle.urb_node.specs.Replies.{Reply}
-use Rattle.urb_node.specs.Steps.{is_down, broadcast_after}
+use Rattle.urb_world.specs.World.{stored}
 use Rattle.urb_world.proofs.steps.StepCases.{OutcomeCases, node_of, outcome-cases, outcome_of}
 use Rattle.urb_world.proofs.steps.StepCases.{step-cases}
 use Rattle.urb_world.specs.EventEffects.{event_node}

@@ -1,34 +1,26 @@
 -- A packet that was sent arrives at its ready target, and the record that it may draft is stored.
 -- The target then knows the name, and has counted the packet's source or certified the name.
-use Rattle.std.proofs.Common.{List, Ok, Option, [], ap, eq-eqb, eqb-true, false, not, refl, subst}
-use Rattle.std.proofs.Common.{sym, true, ℕ, ⊎_elim, ◌&&◌, ◌==◌, ◌∙◌, ◌∷◌, ◌≡◌}
-use Rattle.std.proofs.lemmas.Bool.{and_from, cases_Bool, cond-false, cond-true, false≢true}
+use Rattle.urb_world.proofs.Common.{AllByRecursion, Arrive, Begins, Carried, Cause, Commit, Down}
+use Rattle.urb_world.proofs.Common.{Entry, IsDone, Label, Limits, List, Node, Ok, Option, Ready}
+use Rattle.urb_world.proofs.Common.{Reply, State, Stored, Storing, WasSent, World, [], after}
+use Rattle.urb_world.proofs.Common.{and_from, ap, arrives, carries, cases_Bool, commits, cond-false}
+use Rattle.urb_world.proofs.Common.{cond-true, done, each, eq-eqb, eqb-true, false, false≢true}
+use Rattle.urb_world.proofs.Common.{is_down, is_for, is_node, is_storing, keeps_record}
+use Rattle.urb_world.proofs.Common.{next_position, not, packets_in, receipt_of, refl, run}
+use Rattle.urb_world.proofs.Common.{same_record, same_record-same, step, stores, subst, sym, true}
+use Rattle.urb_world.proofs.Common.{truthful, world_after, ℕ, ⊎_elim, ◌&&◌, ◌==◌, ◌∙◌, ◌∷◌, ◌≡◌}
 use Rattle.std.proofs.lemmas.Bool.{not_from_true}
-use Rattle.std.specs.List.{AllByRecursion}
 use Rattle.urb_world.proofs.steps.Growth.{begins-itself, begins-trans, run-goes_on}
 use Rattle.urb_world.proofs.steps.OneNodeStep.{updated-at}
-use Rattle.urb_world.proofs.recovery.ContinuedWorlds.{Calm, CountsAt, Onward, known-sender, known-stays}
-use Rattle.urb_world.proofs.recovery.ContinuedWorlds.{knows-pair, node-stays, onward-further}
-use Rattle.urb_world.proofs.recovery.ContinuedWorlds.{onward-still, run-sound, sent-stays, truth-stays}
+use Rattle.urb_world.proofs.recovery.ContinuedWorlds.{Calm, CountsAt, Onward, known-sender}
+use Rattle.urb_world.proofs.recovery.ContinuedWorlds.{known-stays, knows-pair, node-stays}
+use Rattle.urb_world.proofs.recovery.ContinuedWorlds.{onward-further, onward-still, run-sound}
+use Rattle.urb_world.proofs.recovery.ContinuedWorlds.{sent-stays, truth-stays}
 use Rattle.urb_world.proofs.recovery.EventPlans.{Course, Reaches, reaches-append, reaches-each}
 use Rattle.urb_world.proofs.recovery.EventPlans.{reaches-none, reaches-one, reaches-weaker}
 use Rattle.urb_world.proofs.recovery.CountedArrivals.{Counts, Took, arrives-settles, knows, settled}
 use Rattle.urb_world.proofs.steps.ConfirmedPackets.{borne-pair}
-use Rattle.urb_world.specs.RecoveredWorlds.{IsDone, WasSent}
-use Rattle.urb_world.specs.RecoveryPlans.{after, carries, each, receipt_of, stores}
-use Rattle.urb_world.specs.Step.{Arrive, Commit, is_for, run, step, world_after}
-use Rattle.urb_world.specs.World.{World, stored, truthful}
-use Rattle.urb_names.specs.ListPrefixes.{Begins}
-use Rattle.urb_names.specs.CarriedPackets.{Carried}
-use Rattle.urb_names.specs.LabelsAndContents.{Label, Limits}
-use Rattle.urb_names.specs.Nodes.{is_node}
-use Rattle.urb_node.proofs.RestartReplies.{same_record-same}
-use Rattle.urb_node.specs.Part.{Down, Node, Ready, State, Storing}
-use Rattle.urb_node.specs.Replies.{Reply, Stored, packets_in}
-use Rattle.urb_node.specs.Steps.{arrives, commits, done, is_down, is_storing, keeps_record}
-use Rattle.urb_node.specs.Steps.{next_position, same_record}
-use Rattle.urb_node.specs.declared.cause.Cause.{Cause}
-use Rattle.urb_stable.specs.Entries.{Entry}
+use Rattle.urb_world.specs.World.{stored}
 
 -- ---- one node moved
 

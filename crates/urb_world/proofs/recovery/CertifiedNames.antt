@@ -1,29 +1,18 @@
 -- If a node has certified each name of a sender up to some number, it has delivered them. If it has
 -- certified all names, it has delivered all.
-use Rattle.std.proofs.Common.{List, Option, Some, [], ap, arith, eqb-true, is_some, length}
-use Rattle.std.proofs.Common.{map, refl, slice_get, suc, sym, take, true, zero, ℕ, ⊎_elim, ◌&&◌}
-use Rattle.std.proofs.Common.{◌+◌, ◌<◌, ◌==◌, ◌∙◌, ◌∷◌, ◌≡◌, ◌≤◌}
-use Rattle.std.proofs.lemmas.Bool.{and_parts, cases_lt, false≢true, or_cases}
-use Rattle.std.proofs.lemmas.List.{length-map}
+use Rattle.urb_world.proofs.Common.{AllDelivered, Content, IsInOrder, Label, List, Option, Ready}
+use Rattle.urb_world.proofs.Common.{Some, World, [], and_parts, ap, arith, cases_lt, cert, eqb-true}
+use Rattle.urb_world.proofs.Common.{false≢true, get_some, has_name, has_name-part, is_node, is_some}
+use Rattle.urb_world.proofs.Common.{kept-numbered, length, length-map, log, map, message_of, name}
+use Rattle.urb_world.proofs.Common.{names, numbers_from, or_cases, part_of, pend, refl, slice_get}
+use Rattle.urb_world.proofs.Common.{suc, sym, take, true, zero, ℕ, ⊎_elim, ◌&&◌, ◌+◌, ◌<◌, ◌==◌}
+use Rattle.urb_world.proofs.Common.{◌∙◌, ◌∷◌, ◌≡◌, ◌≤◌}
 use Rattle.urb_world.proofs.recovery.NodeLists.{sender-node}
 use Rattle.urb_world.proofs.recovery.ContinuedWorlds.{Sound, known-sender}
 use Rattle.urb_world.proofs.safety.SafeWorlds.{safe}
 use Rattle.urb_world.proofs.recovery.CountedArrivals.{knows}
-use Rattle.urb_world.specs.RecoveredWorlds.{AllDelivered}
-use Rattle.urb_world.specs.SafetyProperties.{IsInOrder}
-use Rattle.urb_world.specs.World.{World, stored}
-use Rattle.urb_names.proofs.LogRows.{has_name-part}
-use Rattle.urb_names.specs.Names.{has_name, name, names}
-use Rattle.urb_names.specs.LabelsAndContents.{Content, Label}
-use Rattle.urb_names.specs.Nodes.{is_node, numbers_from}
-use Rattle.urb_names.specs.Pairs.{message_of}
-use Rattle.urb_names.proofs.Places.{get_some}
-use Rattle.urb_names.specs.Release.{part_of}
-use Rattle.urb_node.specs.Part.{Ready}
-use Rattle.urb_stable.proofs.KeptRules.{kept-numbered}
+use Rattle.urb_world.specs.World.{stored}
 use Rattle.urb_stable.proofs.LogGrowth.{delivers}
-use Rattle.urb_stable.specs.DeliveredLogs.{log}
-use Rattle.urb_stable.specs.Records.{cert, pend}
 
 -- ---- names of a sender, by number
 

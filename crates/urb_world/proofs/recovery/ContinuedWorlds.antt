@@ -1,6 +1,9 @@
 -- Worlds in which all nodes are ready, and how one such world goes on from another.
-use Rattle.std.proofs.Common.{List, None, Option, Some, ap, is_some, refl, slice_get, subst}
-use Rattle.std.proofs.Common.{sym, true, ℕ, ◌∙◌, ◌≡◌}
+use Rattle.urb_world.proofs.Common.{Begins, Carried, Content, Entry, Event, IsKept, Label, List}
+use Rattle.urb_world.proofs.Common.{None, Option, Ready, Some, WasSent, World, after, ap, has_pair}
+use Rattle.urb_world.proofs.Common.{has_pair-found, is_node, is_some, message_of, message_of-more}
+use Rattle.urb_world.proofs.Common.{no_pair, pend, pend-append, refl, slice_get, some_found, subst}
+use Rattle.urb_world.proofs.Common.{sym, true, truthful, ℕ, ◌∙◌, ◌≡◌}
 use Rattle.urb_world.proofs.steps.DraftedRecords.{to_sender}
 use Rattle.urb_world.proofs.steps.Growth.{begins-itself, begins-trans, certificate-begins}
 use Rattle.urb_world.proofs.steps.Growth.{pair-begins}
@@ -8,21 +11,7 @@ use Rattle.urb_world.proofs.hearing.LiveWorlds.{WorldLive, run-live}
 use Rattle.urb_world.proofs.steps.Runs.{all_kept, run-kept}
 use Rattle.urb_world.proofs.recovery.CountedArrivals.{Counts, knows}
 use Rattle.urb_world.proofs.steps.ConfirmedPackets.{borne-certificate, borne-pair, to_borne}
-use Rattle.urb_world.specs.RunInvariant.{IsKept}
-use Rattle.urb_world.specs.RecoveredWorlds.{WasSent}
-use Rattle.urb_world.specs.RecoveryPlans.{after}
-use Rattle.urb_world.specs.Step.{Event}
-use Rattle.urb_world.specs.World.{World, stored, truthful}
-use Rattle.urb_names.proofs.FoundPairs.{has_pair-found, message_of-more, no_pair, some_found}
-use Rattle.urb_names.specs.ListPrefixes.{Begins}
-use Rattle.urb_names.specs.CarriedPackets.{Carried}
-use Rattle.urb_names.specs.LabelsAndContents.{Content, Label}
-use Rattle.urb_names.specs.Nodes.{is_node}
-use Rattle.urb_names.specs.Pairs.{has_pair, message_of}
-use Rattle.urb_node.specs.Part.{Ready}
-use Rattle.urb_stable.proofs.JoinedRecords.{pend-append}
-use Rattle.urb_stable.specs.Entries.{Entry}
-use Rattle.urb_stable.specs.Records.{pend}
+use Rattle.urb_world.specs.World.{stored}
 use Rattle.urb_names.proofs.Places.{get_stays}
 
 -- what every world of a run keeps

@@ -1,34 +1,21 @@
 -- A packet comes to a ready node, and the record that it may draft is stored. The node then knows
 -- the name, and has counted the packet's source for it or has certified it.
-use Rattle.std.proofs.Common.{Bool, List, None, Option, Some, [], ap, append-nil, eq-eqb, false}
-use Rattle.std.proofs.Common.{inl, inr, is_none, is_some, not, refl, subst, sym, true, ℕ, ⊎_elim}
-use Rattle.std.proofs.Common.{◌++◌, ◌==◌, ◌||◌, ◌∙◌, ◌∷◌, ◌≡◌, ◌⊎◌}
-use Rattle.std.proofs.lemmas.Bool.{cases_Bool, cond_both, false_from_ne_true, false≢true, not-false}
-use Rattle.std.proofs.lemmas.Bool.{or_left, or_right}
+use Rattle.urb_world.proofs.Common.{AcksKept, Again, Answered, Bool, Carried, Cause, Cert, Content}
+use Rattle.urb_world.proofs.Common.{Down, Entry, Flags, IsDone, Label, Limits, List, Node, None}
+use Rattle.urb_world.proofs.Common.{Noted, Option, Pend, PendCert, Ready, Reply, Same, Some, State}
+use Rattle.urb_world.proofs.Common.{Storing, [], acked, answers, any_left, any_right, ap}
+use Rattle.urb_world.proofs.Common.{append-nil, arrives, cases_Bool, cert, cert-append, cond_both}
+use Rattle.urb_world.proofs.Common.{counts, eq-eqb, false, false_from_ne_true, false≢true, has_name}
+use Rattle.urb_world.proofs.Common.{inl, inr, is_down, is_none, is_some, keeps_record}
+use Rattle.urb_world.proofs.Common.{majority_grows, majority_passes, message_of, message_of-new}
+use Rattle.urb_world.proofs.Common.{none_found, not, not-false, or_left, or_right, packet_from}
+use Rattle.urb_world.proofs.Common.{pend, pend-append, refl, reply_to, same_name, same_name-same}
+use Rattle.urb_world.proofs.Common.{same_name-true, says_certified, subst, sym, takes, true}
+use Rattle.urb_world.proofs.Common.{with_ack, ℕ, ⊎_elim, ◌++◌, ◌==◌, ◌||◌, ◌∙◌, ◌∷◌, ◌≡◌, ◌⊎◌}
 use Rattle.urb_world.proofs.steps.ArrivalCases.{any-heard}
 use Rattle.urb_world.proofs.hearing.CountedNodes.{acked-cases, acked-itself, acked-stays}
-use Rattle.urb_world.specs.RunInvariant.{AcksKept}
-use Rattle.urb_world.specs.RecoveredWorlds.{IsDone}
-use Rattle.urb_names.proofs.FoundPairs.{message_of-new, message_of-other, none_found}
-use Rattle.urb_names.proofs.SameNames.{any_left, any_right, majority_grows, same_name-same}
-use Rattle.urb_names.proofs.SameNames.{same_name-true}
-use Rattle.urb_names.specs.Acknowledgements.{acked, with_ack}
-use Rattle.urb_names.specs.CarriedPackets.{Carried, says_certified}
-use Rattle.urb_names.specs.Names.{has_name, same_name}
-use Rattle.urb_names.specs.LabelsAndContents.{Content, Label, Limits}
-use Rattle.urb_names.specs.Nodes.{majority_passes}
-use Rattle.urb_names.specs.Pairs.{message_of}
-use Rattle.urb_names.specs.declared.flags.Flags.{Flags}
-use Rattle.urb_node.specs.Part.{Down, Node, Ready, State, Storing, packet_from}
-use Rattle.urb_node.specs.Replies.{Reply, Same}
+use Rattle.urb_names.proofs.FoundPairs.{message_of-other}
 use Rattle.urb_node.specs.declared.answer.Answer.{Answer}
-use Rattle.urb_node.specs.declared.answer.Answer.TheVariants.{Again, Answered, Noted}
-use Rattle.urb_node.specs.Steps.{answers, arrives, counts, is_down, keeps_record, reply_to, takes}
-use Rattle.urb_node.specs.declared.cause.Cause.{Cause}
-use Rattle.urb_stable.proofs.JoinedRecords.{cert-append, pend-append}
-use Rattle.urb_stable.specs.Entries.{Entry}
-use Rattle.urb_stable.specs.Records.{cert, pend}
-use Rattle.urb_stable.specs.declared.record.Record.TheVariants.{Cert, Pend, PendCert}
 
 -- whether a message is stored under the name
 abbrev pub knows : List Entry → Label → Bool

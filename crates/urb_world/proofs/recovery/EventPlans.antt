@@ -1,10 +1,8 @@
 -- Lists of events that succeed, one after the other, and what they lead to.
-use Rattle.std.proofs.Common.{List, [], refl, subst, sym, ◌++◌, ◌∷◌, ◌≡◌}
-use Rattle.std.specs.List.{AllByRecursion}
-use Rattle.urb_world.specs.RecoveredWorlds.{Goes, IsDone, IsHarmless}
-use Rattle.urb_world.specs.RecoveryPlans.{Plan, after, both, each}
-use Rattle.urb_world.specs.Step.{Event, run, step}
-use Rattle.urb_world.specs.World.{World}
+use Rattle.urb_world.proofs.Common.{AllByRecursion, Event, IsDone, IsHarmless, List, Plan, World}
+use Rattle.urb_world.proofs.Common.{[], after, both, each, refl, run, step, subst, sym, ◌++◌, ◌∷◌}
+use Rattle.urb_world.proofs.Common.{◌≡◌}
+use Rattle.urb_world.specs.RecoveredWorlds.{Goes}
 
 -- no events leave the world as it is
 pub after-none : (w : World) → after w [] ≡ w

@@ -1,33 +1,26 @@
 -- After two rounds every node has certified every name, so everything is delivered: no state is a
 -- dead end.
-use Rattle.std.proofs.Common.{Bool, ap, arith, count_by, eqb-true, false}
-use Rattle.std.proofs.Common.{filter, length, lt-ltb, ltb-true, nat_lt, refl}
-use Rattle.std.proofs.Common.{subst, suc, sym, true, zero, ℕ, ⊎_elim, ◌*◌}
-use Rattle.std.proofs.Common.{◌+◌, ◌<◌, ◌==◌, ◌∙◌, ◌∷◌, ◌≡◌, ◌≤◌}
-use Rattle.std.proofs.lemmas.Bool.{and_from, and_parts, cases_Bool, cases_eq, cond-true}
-use Rattle.std.proofs.lemmas.Bool.{false≢true}
-use Rattle.std.proofs.lemmas.List.Sums.{length-filter}
+use Rattle.urb_world.proofs.Common.{AllDelivered, Bool, Content, IsNotStranded, IsReached, Label}
+use Rattle.urb_world.proofs.Common.{Limits, World, acked, after, all_back, and_from, and_parts, ap}
+use Rattle.urb_world.proofs.Common.{arith, both, cases_Bool, cases_eq, cert, cond-true, count_by}
+use Rattle.urb_world.proofs.Common.{eqb-true, false, false≢true, filter, has_name, has_pair}
+use Rattle.urb_world.proofs.Common.{is_down, is_node, length, length-filter, lt-ltb, ltb-true}
+use Rattle.urb_world.proofs.Common.{majority_passes, nat_lt, nodes, numbers_from, pend, recovery}
+use Rattle.urb_world.proofs.Common.{refl, rounds, run, subst, suc, sym, true, zero, ℕ, ⊎_elim, ◌*◌}
+use Rattle.urb_world.proofs.Common.{◌+◌, ◌<◌, ◌==◌, ◌∙◌, ◌∷◌, ◌≡◌, ◌≤◌}
 use Rattle.urb_world.proofs.recovery.CertifiedNames.{certified-delivered}
 use Rattle.urb_world.proofs.recovery.ReturningNodes.{all-back}
 use Rattle.urb_world.proofs.steps.Growth.{certificate-begins, run-goes_on}
 use Rattle.urb_world.proofs.hearing.LiveWorlds.{reached-live}
 use Rattle.urb_world.proofs.recovery.NodeLists.{sender-node}
-use Rattle.urb_world.proofs.recovery.ContinuedWorlds.{Calm, Onward, Sound, known-pair, onward-further}
+use Rattle.urb_world.proofs.recovery.ContinuedWorlds.{Calm, Onward, Sound, known-pair}
+use Rattle.urb_world.proofs.recovery.ContinuedWorlds.{onward-further}
 use Rattle.urb_world.proofs.recovery.EventPlans.{Reaches, reaches-both, reaches-weaker}
 use Rattle.urb_world.proofs.recovery.OneRound.{HasTold, rounds-reach}
 use Rattle.urb_world.proofs.steps.Runs.{reached-keeps}
 use Rattle.urb_world.proofs.recovery.CountedArrivals.{knows}
-use Rattle.urb_world.specs.RecoveredWorlds.{AllDelivered, CanDeliver, IsNotStranded}
-use Rattle.urb_world.specs.RecoveryPlans.{after, all_back, both, recovery, rounds}
-use Rattle.urb_world.specs.Step.{IsReached, run}
-use Rattle.urb_world.specs.World.{World, stored}
-use Rattle.urb_names.specs.Acknowledgements.{acked}
-use Rattle.urb_names.specs.Names.{has_name}
-use Rattle.urb_names.specs.LabelsAndContents.{Content, Label, Limits}
-use Rattle.urb_names.specs.Nodes.{is_node, majority_passes, nodes, numbers_from}
-use Rattle.urb_names.specs.Pairs.{has_pair}
-use Rattle.urb_node.specs.Steps.{is_down}
-use Rattle.urb_stable.specs.Records.{cert, pend}
+use Rattle.urb_world.specs.RecoveredWorlds.{CanDeliver}
+use Rattle.urb_world.specs.World.{stored}
 
 -- ---- all nodes are a majority
 

@@ -1,26 +1,16 @@
 -- Lists of nodes, packets that go to nodes, and the senders of names that are known.
-use Rattle.std.proofs.Common.{Bool, List, Some, [], ap, arith, false, filter, flat_map, lt-ltb}
-use Rattle.std.proofs.Common.{ltb-true, nat_lt}
-use Rattle.std.proofs.Common.{not, refl, suc, sym, true, zero, ℕ, ⊎_elim, ◌+◌, ◌<◌, ◌==◌, ◌∙◌, ◌∷◌}
-use Rattle.std.proofs.Common.{◌≡◌, ◌≤◌, inl, inr}
-use Rattle.std.proofs.lemmas.Bool.{and_from, and_parts, cases_eq, cond_both, false≢true}
-use Rattle.std.specs.List.{AllByRecursion}
+use Rattle.urb_world.proofs.Common.{AllByRecursion, Bool, Carried, Content, Flags, Label, List}
+use Rattle.urb_world.proofs.Common.{Node, Some, World, [], acked, all_append, and_from, and_parts}
+use Rattle.urb_world.proofs.Common.{ap, arith, cases_eq, cert, cond_both, false, false≢true, filter}
+use Rattle.urb_world.proofs.Common.{flat_map, has_name, in_range, inl, inr, is_node, kept-range}
+use Rattle.urb_world.proofs.Common.{lt-ltb, ltb-true, nat_lt, nodes, not, numbers_from, others}
+use Rattle.urb_world.proofs.Common.{packets_to, refl, suc, sym, to_unheard, true, zero, ℕ, ⊎_elim}
+use Rattle.urb_world.proofs.Common.{◌+◌, ◌<◌, ◌==◌, ◌∙◌, ◌∷◌, ◌≡◌, ◌≤◌}
 use Rattle.urb_world.proofs.recovery.ContinuedWorlds.{Sound, known-pair, known-sender}
 use Rattle.urb_world.proofs.recovery.CountedArrivals.{knows}
 use Rattle.urb_world.proofs.ticks.Membership.{IsIn, in-filter, in-flat_map, in-map}
 use Rattle.urb_world.proofs.recovery.TickPackets.{resent_packets}
-use Rattle.urb_world.specs.World.{World, stored}
-use Rattle.urb_names.proofs.SentPairs.{all_append}
-use Rattle.urb_names.specs.Acknowledgements.{acked}
-use Rattle.urb_names.specs.CarriedPackets.{Carried, others, packets_to, to_unheard}
-use Rattle.urb_names.specs.Names.{has_name}
-use Rattle.urb_names.specs.LabelsAndContents.{Content, Label}
-use Rattle.urb_names.specs.Nodes.{is_node, nodes, numbers_from}
-use Rattle.urb_names.specs.declared.flags.Flags.{Flags}
-use Rattle.urb_node.specs.Part.{Node}
-use Rattle.urb_stable.proofs.KeptRules.{kept-range}
-use Rattle.urb_stable.specs.Fitting.{in_range}
-use Rattle.urb_stable.specs.Records.{cert}
+use Rattle.urb_world.specs.World.{stored}
 
 -- ---- nodes
 

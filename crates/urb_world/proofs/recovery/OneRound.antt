@@ -1,43 +1,31 @@
 -- A round of one node. Each other node then knows what it knew, and has counted it for each name or
 -- certified the name.
-use Rattle.std.proofs.Common.{List, Some, ap, arith, eqb-true, false, is_some, length}
-use Rattle.std.proofs.Common.{refl, slice_get, subst, sym, true, ℕ, ⊎_elim, ◌++◌, ◌==◌, ◌∙◌, ◌≡◌}
-use Rattle.std.proofs.Common.{◌≤◌, ◌⊎◌, inl, inr}
-use Rattle.std.proofs.lemmas.Bool.{cases_Bool, false≢true}
-use Rattle.std.specs.List.{AllByRecursion}
+use Rattle.urb_world.proofs.Common.{AllByRecursion, AllIn, Carried, Content, IsFrom, Label, Limits}
+use Rattle.urb_world.proofs.Common.{List, Node, Ready, Some, World, acked, after, all-from, ap}
+use Rattle.urb_world.proofs.Common.{arith, bears_out, carries, cases_Bool, cert, each, eqb-true}
+use Rattle.urb_world.proofs.Common.{false, false≢true, has_name, has_pair, in_due, in_itself}
+use Rattle.urb_world.proofs.Common.{in_rising, inl, inr, is_node, is_some, kept-held, length, nodes}
+use Rattle.urb_world.proofs.Common.{pend, refl, rising, round_of, rounds, run, slice_get, subst}
+use Rattle.urb_world.proofs.Common.{sym, true, ℕ, ⊎_elim, ◌++◌, ◌==◌, ◌∙◌, ◌≡◌, ◌≤◌, ◌⊎◌}
 use Rattle.urb_world.proofs.recovery.CarriedPackets.{Carriable, IsToldBy, all-carried, moved-each}
 use Rattle.urb_world.proofs.ticks.DuePairs.{due-few, due-rises, in-due}
 use Rattle.urb_world.proofs.steps.Growth.{run-goes_on}
-use Rattle.urb_world.proofs.recovery.ContinuedWorlds.{Calm, CountsAt, Onward, known-pair, known-sender}
-use Rattle.urb_world.proofs.recovery.ContinuedWorlds.{known-stays, knows-pair, node-stays}
-use Rattle.urb_world.proofs.recovery.ContinuedWorlds.{onward-further, onward-still, run-sound}
-use Rattle.urb_world.proofs.recovery.ContinuedWorlds.{truth-stays}
+use Rattle.urb_world.proofs.recovery.ContinuedWorlds.{Calm, CountsAt, Onward, known-pair}
+use Rattle.urb_world.proofs.recovery.ContinuedWorlds.{known-sender, known-stays, knows-pair}
+use Rattle.urb_world.proofs.recovery.ContinuedWorlds.{node-stays, onward-further, onward-still}
+use Rattle.urb_world.proofs.recovery.ContinuedWorlds.{run-sound, truth-stays}
 use Rattle.urb_world.proofs.recovery.EventPlans.{Course, Reaches, reaches-append, reaches-each}
 use Rattle.urb_world.proofs.recovery.EventPlans.{reaches-weaker}
 use Rattle.urb_world.proofs.recovery.CountedArrivals.{Counts, certified-counts, knows}
-use Rattle.urb_world.proofs.ticks.Membership.{IsIn, all-in, in-all}
-use Rattle.urb_world.proofs.ticks.Membership.{in-place, in-right}
+use Rattle.urb_world.proofs.ticks.Membership.{IsIn, all-in, in-all, in-place, in-right}
 use Rattle.urb_world.proofs.recovery.TickPackets.{Ticks, due_pairs, resent_packets, tick_events}
 use Rattle.urb_world.proofs.recovery.TickPackets.{ticks-go}
 use Rattle.urb_world.proofs.steps.ConfirmedPackets.{to_borne}
 use Rattle.urb_world.proofs.ticks.TickCoverage.{all-turn, cursor_after, in-turns, turns}
-use Rattle.urb_world.specs.RecoveryPlans.{after, carries, each, packets_of, round_of, rounds}
-use Rattle.urb_world.specs.Step.{run}
-use Rattle.urb_world.specs.World.{World, bears_out, stored}
-use Rattle.urb_names.proofs.SentPairs.{AllIn, all-from, in_due, in_itself, in_rising}
-use Rattle.urb_names.specs.Acknowledgements.{acked}
-use Rattle.urb_names.specs.CarriedPackets.{Carried, IsFrom}
-use Rattle.urb_names.specs.CyclicOrder.{rising}
-use Rattle.urb_names.specs.Names.{has_name}
-use Rattle.urb_names.specs.LabelsAndContents.{Content, Label, Limits}
-use Rattle.urb_names.specs.Nodes.{is_node, nodes}
-use Rattle.urb_names.specs.Pairs.{has_pair}
-use Rattle.urb_node.specs.Part.{Node, Ready}
-use Rattle.urb_stable.proofs.KeptRules.{kept-held}
-use Rattle.urb_stable.specs.Records.{cert, pend}
-use Rattle.urb_world.proofs.recovery.NodeLists.{ToNode, in-nodes, in-others, nodes-in}
-use Rattle.urb_world.proofs.recovery.NodeLists.{packet-in, packet_to, resent-to_nodes}
-use Rattle.urb_world.proofs.recovery.NodeLists.{sender-node}
+use Rattle.urb_world.specs.RecoveryPlans.{packets_of}
+use Rattle.urb_world.specs.World.{stored}
+use Rattle.urb_world.proofs.recovery.NodeLists.{ToNode, in-nodes, in-others, nodes-in, packet-in}
+use Rattle.urb_world.proofs.recovery.NodeLists.{packet_to, resent-to_nodes, sender-node}
 
 -- ---- the ticks
 

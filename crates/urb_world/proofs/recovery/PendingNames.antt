@@ -1,33 +1,23 @@
 -- A node has no more names pending than the storages of all nodes took messages.
-use Rattle.std.proofs.Common.{Bool, List, [], ap, arith, eq-eqb, eqb-true, flat_map}
-use Rattle.std.proofs.Common.{inl, inr, length, map, refl, subst, suc, sym, true, zero, ℕ}
-use Rattle.std.proofs.Common.{⊎_elim, ◌++◌, ◌==◌, ◌∙◌, ◌∷◌, ◌≡◌, ◌≤◌}
-use Rattle.std.proofs.Math.Path.{fun_ext}
-use Rattle.std.proofs.lemmas.Bool.{and_parts, cases_Bool, false≢true}
+use Rattle.urb_world.proofs.Common.{Bool, Content, Entry, Kept, Label, Limits, List, World, []}
+use Rattle.urb_world.proofs.Common.{and_parts, ap, are_rising, arith, cases_Bool, eq-eqb, eqb-true}
+use Rattle.urb_world.proofs.Common.{false≢true, flat_map, fun_ext, has_pair, has_pair-last, inl}
+use Rattle.urb_world.proofs.Common.{inr, length, list_all, map, name, name_lt, name_lt-strict}
+use Rattle.urb_world.proofs.Common.{names, nodes, numbers_from, own, own-other, own-push, pairs-all}
+use Rattle.urb_world.proofs.Common.{pend, refl, rising, subst, suc, sym, taken, true, zero, ℕ}
+use Rattle.urb_world.proofs.Common.{⊎_elim, ◌++◌, ◌==◌, ◌∙◌, ◌∷◌, ◌≡◌, ◌≤◌}
 use Rattle.std.proofs.lemmas.List.Concat.{length-flat_map}
 use Rattle.std.proofs.lemmas.List.{length-append}
-use Rattle.std.specs.List.{list_all, sum_by}
+use Rattle.std.specs.List.{sum_by}
 use Rattle.urb_world.proofs.ticks.DueTurns.{in-has}
 use Rattle.urb_world.proofs.ticks.DuePairs.{has_pair-rising, length-rising, rises-records}
 use Rattle.urb_world.proofs.ticks.DuePairs.{rises-rising}
 use Rattle.urb_world.proofs.recovery.NodeLists.{in-nodes, in-numbers, sender-node}
 use Rattle.urb_world.proofs.recovery.ContinuedWorlds.{Sound, known-pair, known-sender, knows-pair}
 use Rattle.urb_world.proofs.recovery.CountedArrivals.{knows}
-use Rattle.urb_world.proofs.ticks.Membership.{IsIn, in-flat_map, in-map}
-use Rattle.urb_world.proofs.ticks.Membership.{in-split}
-use Rattle.urb_world.specs.Rounds.{taken}
-use Rattle.urb_world.specs.World.{World, stored}
-use Rattle.urb_names.proofs.FoundPairs.{has_pair-last, own-other, own-push}
-use Rattle.urb_names.specs.CyclicOrder.{are_rising, rising}
-use Rattle.urb_names.specs.Names.{name, name_lt, names}
-use Rattle.urb_names.specs.LabelsAndContents.{Content, Label, Limits}
-use Rattle.urb_names.specs.Nodes.{nodes, numbers_from}
-use Rattle.urb_names.specs.Pairs.{has_pair, own}
-use Rattle.urb_stable.proofs.KeptRules.{PairRules, pairs-all}
-use Rattle.urb_stable.specs.Entries.{Entry}
-use Rattle.urb_stable.specs.Fitting.{Kept}
-use Rattle.urb_stable.specs.Records.{pend}
-use Rattle.urb_names.proofs.RisingPairs.{name_lt-strict}
+use Rattle.urb_world.proofs.ticks.Membership.{IsIn, in-flat_map, in-map, in-split}
+use Rattle.urb_world.specs.World.{stored}
+use Rattle.urb_stable.proofs.KeptRules.{PairRules}
 
 abbrev Pairs : Type 0
 Pairs = List (Label × Content)

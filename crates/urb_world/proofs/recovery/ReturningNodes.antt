@@ -1,10 +1,16 @@
 -- All nodes come back: a held record is stored, and a node that is down restarts with what its
 -- storage holds.
-use Rattle.std.proofs.Common.{Bool, List, None, Option, Some, [], ap, eq-eqb, false, length, refl}
-use Rattle.std.proofs.Common.{subst, sym, true, ℕ, ⊎_elim, ◌++◌, ◌∙◌, ◌∷◌, ◌≡◌}
-use Rattle.std.proofs.lemmas.Bool.{and_from, and_parts, cond-true, cond_both, false≢true, or_cases}
-use Rattle.std.proofs.lemmas.Bool.{or_left, or_right}
-use Rattle.std.specs.List.{list_all}
+use Rattle.urb_world.proofs.Common.{Bool, Cert, Content, Down, Entry, IsDone, IsNotStranded, Label}
+use Rattle.urb_world.proofs.Common.{Limits, List, Node, None, Option, Pend, PendCert, Ready, Reply}
+use Rattle.urb_world.proofs.Common.{Restart, Some, State, Storing, World, [], all_back, and_from}
+use Rattle.urb_world.proofs.Common.{and_parts, any_left, any_right, ap, cert, cert-append}
+use Rattle.urb_world.proofs.Common.{comes_back, cond-true, cond_both, doubt, eq-eqb, false}
+use Rattle.urb_world.proofs.Common.{false≢true, has_name, has_pair, has_pair-behind, has_pair-cases}
+use Rattle.urb_world.proofs.Common.{has_pair-head, image_with, is_node, keeps_record, length}
+use Rattle.urb_world.proofs.Common.{list_all, log, nodes, or_cases, or_left, or_right, pend}
+use Rattle.urb_world.proofs.Common.{pend-append, readied, refl, restarts, restarts_with, same_list}
+use Rattle.urb_world.proofs.Common.{same_name, same_name-same, same_names, same_pairs, says, step}
+use Rattle.urb_world.proofs.Common.{subst, sym, true, world_after, ℕ, ⊎_elim, ◌++◌, ◌∙◌, ◌∷◌, ◌≡◌}
 use Rattle.urb_world.proofs.recovery.CarriedPackets.{Moved, moved-after, moved-each, stores-reaches}
 use Rattle.urb_world.proofs.recovery.ContinuedWorlds.{Calm, Sound, run-sound}
 use Rattle.urb_world.proofs.recovery.EventPlans.{Course, Reaches, reaches-each, reaches-none}
@@ -12,27 +18,8 @@ use Rattle.urb_world.proofs.recovery.EventPlans.{reaches-one, reaches-weaker}
 use Rattle.urb_world.proofs.hearing.LiveNodes.{IsWhole}
 use Rattle.urb_world.proofs.recovery.NodeLists.{in-nodes, nodes-in}
 use Rattle.urb_world.proofs.ticks.Membership.{all-in, in-all}
-use Rattle.urb_world.specs.RecoveredWorlds.{IsDone, IsNotStranded}
-use Rattle.urb_world.specs.RecoveryPlans.{all_back, comes_back, image_with, readied}
-use Rattle.urb_world.specs.Step.{Restart, step, world_after}
-use Rattle.urb_world.specs.World.{World, stored}
-use Rattle.urb_names.proofs.FoundPairs.{has_pair-cases}
-use Rattle.urb_names.proofs.OrderedPairs.{has_pair-behind, has_pair-head}
-use Rattle.urb_names.proofs.SameNames.{any_left, any_right, same_name-same}
-use Rattle.urb_names.specs.Names.{has_name, same_name}
-use Rattle.urb_names.specs.LabelsAndContents.{Content, Label, Limits}
-use Rattle.urb_names.specs.Nodes.{is_node, nodes}
-use Rattle.urb_names.specs.Pairs.{has_pair}
+use Rattle.urb_world.specs.World.{stored}
 use Rattle.urb_node.proofs.ImageNames.{same_list-same}
-use Rattle.urb_node.specs.Part.{Down, Node, Ready, State, Storing}
-use Rattle.urb_node.specs.Replies.{Reply}
-use Rattle.urb_node.specs.Steps.{doubt, keeps_record, restarts, restarts_with, same_list}
-use Rattle.urb_node.specs.Steps.{same_names, same_pairs, says}
-use Rattle.urb_stable.proofs.JoinedRecords.{cert-append, pend-append}
-use Rattle.urb_stable.specs.Entries.{Entry}
-use Rattle.urb_stable.specs.DeliveredLogs.{log}
-use Rattle.urb_stable.specs.Records.{cert, pend}
-use Rattle.urb_stable.specs.declared.record.Record.TheVariants.{Cert, Pend, PendCert}
 
 -- ---- an image says what it says
 

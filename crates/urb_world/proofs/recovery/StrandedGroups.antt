@@ -1,35 +1,25 @@
 -- A stranded group stays stranded. Its one node receives no packet, so it never certifies a pair
 -- that it has stored without a certificate.
-use Rattle.std.proofs.Common.{List, None, Ok, Option, Some, [], ap, append-nil, arith, cond, false}
-use Rattle.std.proofs.Common.{filter, flat_map, is_none, is_some, ltb-true, nat_lt, not, refl}
-use Rattle.std.proofs.Common.{slice_get, subst, suc, sym, true, ℕ, ⊎_elim, ◌++◌, ◌==◌, ◌∙◌, ◌∷◌}
-use Rattle.std.proofs.Common.{◌≡◌}
-use Rattle.std.proofs.lemmas.Bool.{and_parts, cond_both, false_from_ne_true, false≢true}
+use Rattle.urb_world.proofs.Common.{AreImages, Arrive, Carried, Cause, Cert, Content, Entry, Event}
+use Rattle.urb_world.proofs.Common.{Fits, Label, Limits, List, Node, NodesKept, None, Ok, Option}
+use Rattle.urb_world.proofs.Common.{Pend, PendCert, Reply, Some, State, StateKept, WasSent, World}
+use Rattle.urb_world.proofs.Common.{[], acked, after, and_parts, ap, append-nil, arith, cert}
+use Rattle.urb_world.proofs.Common.{cert-append, cond, cond_both, doubt, due, false}
+use Rattle.urb_world.proofs.Common.{false_from_ne_true, false≢true, filter, flat_map, has_name}
+use Rattle.urb_world.proofs.Common.{has_pair, heard_of, image_of, in_range, is_heard_of, is_node}
+use Rattle.urb_world.proofs.Common.{is_none, is_some, keeps_a, ltb-true, message_of}
+use Rattle.urb_world.proofs.Common.{message_of-more, nat_lt, not, opened, others, packets_in}
+use Rattle.urb_world.proofs.Common.{packets_to, pend, pend-append, refl, run, slice_get, some_found}
+use Rattle.urb_world.proofs.Common.{step, subst, suc, sym, to_unheard, true, ℕ, ⊎_elim, ◌++◌, ◌==◌}
+use Rattle.urb_world.proofs.Common.{◌∙◌, ◌∷◌, ◌≡◌}
 use Rattle.urb_world.proofs.steps.Runs.{opened-kept, step-keeps, step-sends}
 use Rattle.urb_world.proofs.recovery.ContinuedWorlds.{knows-pair}
 use Rattle.urb_world.proofs.recovery.CountedArrivals.{knows}
 use Rattle.urb_world.proofs.steps.DraftsInSteps.{step-size}
-use Rattle.urb_world.specs.RunInvariant.{NodesKept, StateKept}
-use Rattle.urb_world.specs.RecoveredWorlds.{AreAsSent, IsAsSent, WasSent}
-use Rattle.urb_world.specs.RecoveryPlans.{after}
-use Rattle.urb_world.specs.Step.{Arrive, Event, run, step}
-use Rattle.urb_world.specs.World.{AreImages, World, image_of, opened, stored}
-use Rattle.urb_names.proofs.FoundPairs.{has_name-last, message_of-more, some_found}
-use Rattle.urb_names.specs.Acknowledgements.{acked}
-use Rattle.urb_names.specs.CarriedPackets.{Carried, is_heard_of, others, packets_to, to_unheard}
-use Rattle.urb_names.specs.Names.{has_name}
-use Rattle.urb_names.specs.LabelsAndContents.{Content, Label, Limits}
-use Rattle.urb_names.specs.Nodes.{is_node}
-use Rattle.urb_names.specs.Pairs.{has_pair, message_of}
-use Rattle.urb_node.specs.Part.{Node, State}
-use Rattle.urb_node.specs.Replies.{Reply, packets_in}
-use Rattle.urb_node.specs.Steps.{doubt, due, heard_of, packets_of}
-use Rattle.urb_node.specs.declared.cause.Cause.{Cause}
-use Rattle.urb_stable.proofs.JoinedRecords.{cert-append, pend-append}
-use Rattle.urb_stable.specs.Entries.{Entry}
-use Rattle.urb_stable.specs.Fitting.{Fits, in_range, keeps_a}
-use Rattle.urb_stable.specs.Records.{cert, pend}
-use Rattle.urb_stable.specs.declared.record.Record.TheVariants.{Cert, Pend, PendCert}
+use Rattle.urb_world.specs.RecoveredWorlds.{AreAsSent, IsAsSent}
+use Rattle.urb_world.specs.World.{stored}
+use Rattle.urb_names.proofs.FoundPairs.{has_name-last}
+use Rattle.urb_node.specs.Steps.{packets_of}
 use Rattle.urb_world.proofs.steps.StepCases.{OutcomeCases, node_of, outcome-cases, outcome_of}
 use Rattle.urb_world.proofs.steps.StepCases.{step-cases, step-nodes}
 use Rattle.urb_world.proofs.steps.ArrivalCases.{arrive-cases}

@@ -1,25 +1,19 @@
 -- A ready node's ticks: each pair that is due is sent to each node whose certificate of it was not
 -- heard.
-use Rattle.std.proofs.Common.{List, ap, append-nil, append_assoc, flat_map, refl, replicate, subst}
-use Rattle.std.proofs.Common.{suc, sym, true, zero, ℕ, ◌++◌, ◌∙◌, ◌≡◌}
-use Rattle.std.proofs.lemmas.Bool.{cond-false, cond-true}
+use Rattle.urb_world.proofs.Common.{Carried, Content, Event, IsDone, Label, List, Node, Ready}
+use Rattle.urb_world.proofs.Common.{Reply, Tick, World, after, ap, append-nil, append_assoc, cert}
+use Rattle.urb_world.proofs.Common.{cond-false, cond-true, due_of, flat_map, is_down, is_node}
+use Rattle.urb_world.proofs.Common.{is_storing, packets_in, pend, refl, replicate, resends, resent}
+use Rattle.urb_world.proofs.Common.{rising, run, step, subst, suc, sym, to_unheard, true}
+use Rattle.urb_world.proofs.Common.{world_after, zero, ℕ, ◌++◌, ◌∙◌, ◌≡◌}
 use Rattle.std.proofs.lemmas.Grind.{flat_map-append}
 use Rattle.urb_world.proofs.recovery.CarriedPackets.{Moved, moved-after, moved-twice}
 use Rattle.urb_world.proofs.steps.Growth.{begins-itself}
 use Rattle.urb_world.proofs.steps.OneNodeStep.{updated-at}
 use Rattle.urb_world.proofs.ticks.TickCoverage.{cursor_after, turns}
-use Rattle.urb_world.specs.RecoveredWorlds.{Goes, IsDone}
-use Rattle.urb_world.specs.RecoveryPlans.{after, packets_of}
-use Rattle.urb_world.specs.Step.{Event, Tick, run, step, world_after}
-use Rattle.urb_world.specs.World.{World}
-use Rattle.urb_names.specs.CarriedPackets.{Carried, due_of, to_unheard}
-use Rattle.urb_names.specs.CyclicOrder.{resent, rising}
-use Rattle.urb_names.specs.LabelsAndContents.{Content, Label}
-use Rattle.urb_names.specs.Nodes.{is_node}
-use Rattle.urb_node.specs.Part.{Node, Ready}
-use Rattle.urb_node.specs.Replies.{Reply, packets_in}
-use Rattle.urb_node.specs.Steps.{is_down, is_storing, resends, ticks}
-use Rattle.urb_stable.specs.Records.{cert, pend}
+use Rattle.urb_world.specs.RecoveredWorlds.{Goes}
+use Rattle.urb_world.specs.RecoveryPlans.{packets_of}
+use Rattle.urb_node.specs.Steps.{ticks}
 
 -- the pairs of node p that are due
 abbrev pub due_pairs : ℕ → ℕ → Node → List (Label × Content)

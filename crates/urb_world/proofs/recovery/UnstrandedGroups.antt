@@ -1,21 +1,14 @@
 -- A group that is not stranded never becomes stranded: a node that is alone stores no pair without
 -- its certificate.
-use Rattle.std.proofs.Common.{List, Option, Some, [], arith, inl, inr, refl, subst, sym, ℕ, ◌<◌, ◌∷◌}
-use Rattle.std.proofs.Common.{◌≡◌, ◌≤◌}
-use Rattle.std.proofs.lemmas.Bool.{false≢true}
+use Rattle.urb_world.proofs.Common.{AlwaysLeaves, Down, Entry, Event, IsEither, IsNotStranded}
+use Rattle.urb_world.proofs.Common.{IsReached, Limits, List, Node, Of_new, Option, Reply, Run, Some}
+use Rattle.urb_world.proofs.Common.{State, Storing, World, [], arith, contents-either, doubt}
+use Rattle.urb_world.proofs.Common.{false≢true, inl, inr, opened, refl, run, started, step, subst}
+use Rattle.urb_world.proofs.Common.{sym, ℕ, ◌<◌, ◌∷◌, ◌≡◌, ◌≤◌}
 use Rattle.urb_world.proofs.recovery.ReturningNodes.{Whole, whole-joined}
 use Rattle.urb_world.proofs.hearing.LiveWorlds.{WorldLive, reached-live, start-live, step-live}
 use Rattle.urb_world.proofs.hearing.LiveNodes.{IsWhole}
-use Rattle.urb_world.specs.RecoveredWorlds.{IsNotStranded}
-use Rattle.urb_world.specs.Step.{Event, IsReached, Of_new, Run, run, step}
-use Rattle.urb_world.specs.ProcessStops.{AlwaysLeaves}
-use Rattle.urb_world.specs.World.{World, opened, started, stored}
-use Rattle.urb_names.specs.LabelsAndContents.{Limits}
-use Rattle.urb_node.specs.Part.{Down, Node, State, Storing}
-use Rattle.urb_node.specs.Replies.{Reply}
-use Rattle.urb_node.specs.Steps.{doubt}
-use Rattle.urb_stable.proofs.Contents.{IsEither, contents-either}
-use Rattle.urb_stable.specs.Entries.{Entry}
+use Rattle.urb_world.specs.World.{stored}
 use Rattle.urb_world.proofs.steps.StepCases.{OutcomeCases, node_of, outcome-cases, step-nodes}
 use Rattle.urb_world.proofs.steps.ArrivalCases.{arrive-cases}
 use Rattle.urb_world.proofs.steps.DraftsInSteps.{step-size}

@@ -1,13 +1,11 @@
 -- The cases of what an event counts as in a round: nothing, a new message, a failure, an arrival,
 -- or a tick.
-use Rattle.std.proofs.Common.{Err, List, Ok, Result, [], refl, ℕ, ◌∷◌, ◌≡◌}
+use Rattle.urb_world.proofs.Common.{Act, Adds, Arrive, Arrives, Breaks, Carried, Drafted, Err}
+use Rattle.urb_world.proofs.Common.{Event, List, Ok, PacketFault, Reply, Result, Same, Sent, Tick}
+use Rattle.urb_world.proofs.Common.{WentDown, [], act_of, disturbance, refl, ℕ, ◌∷◌, ◌≡◌}
 use Rattle.urb_world.proofs.rounds.EventTicks.{resent_by}
 use Rattle.urb_world.specs.EventEffects.{event_node}
-use Rattle.urb_world.specs.Rounds.{Act, Adds, Arrives, Breaks, Ticks, act_of, disturbance}
-use Rattle.urb_world.specs.Step.{Arrive, Event, Tick}
-use Rattle.urb_names.specs.CarriedPackets.{Carried}
-use Rattle.urb_names.specs.declared.refusal.PacketFault.{PacketFault}
-use Rattle.urb_node.specs.Replies.{Drafted, Reply, Same, Sent, WentDown}
+use Rattle.urb_world.specs.Rounds.{Ticks}
 
 -- a reply counts as a new message, as a failure or as nothing
 pub disturbance-cases : (P : List Act → Type 0) (reply : Reply) → P [] → P (Adds ∷ [])

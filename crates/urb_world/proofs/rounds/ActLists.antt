@@ -1,24 +1,19 @@
 -- Acts of lists of events, one list after another. Events that proceed quietly don't disturb.
-use Rattle.std.proofs.Common.{List, None, Some, [], ap, append_assoc, refl, subst, sym, ℕ, ◌&&◌}
-use Rattle.std.proofs.Common.{◌++◌, ◌==◌, ◌∙◌, ◌∷◌, ◌≡◌}
-use Rattle.std.proofs.lemmas.Bool.{cond_both}
+use Rattle.urb_world.proofs.Common.{Act, Adds, Arrive, Arrives, Breaks, Carried, Commit, Crash}
+use Rattle.urb_world.proofs.Common.{Down, Entry, Event, Fail, IsHarmless, IsUndisturbed, List, Node}
+use Rattle.urb_world.proofs.Common.{None, Ready, Refused, Reply, Restart, Some, State, Storing}
+use Rattle.urb_world.proofs.Common.{Submit, Tick, World, [], act_of, acts_of, after, ap}
+use Rattle.urb_world.proofs.Common.{append_assoc, at_node, commits, cond_both, disturbance, is_node}
+use Rattle.urb_world.proofs.Common.{next_position, packets_in, refl, restarts, run, same_record}
+use Rattle.urb_world.proofs.Common.{says, step, subst, sym, world_after, ℕ, ◌&&◌, ◌++◌, ◌==◌, ◌∙◌}
+use Rattle.urb_world.proofs.Common.{◌∷◌, ◌≡◌}
 use Rattle.urb_world.proofs.recovery.EventPlans.{after-none}
 use Rattle.urb_world.proofs.rounds.ProceedingEvents.{IsQuiet, ProceedsQuietly, acts-more, acts-none}
-use Rattle.urb_world.specs.RecoveredWorlds.{Goes, IsHarmless}
-use Rattle.urb_world.specs.RecoveryPlans.{after, packets_of}
-use Rattle.urb_world.specs.Rounds.{Act, Adds, Arrives, Breaks, IsUndisturbed, Ticks as Ticking, act_of}
-use Rattle.urb_world.specs.Rounds.{acts_of, disturbance}
-use Rattle.urb_world.specs.Step.{Arrive, Commit, Crash, Event, Fail, Restart, Submit, Tick, at_node}
-use Rattle.urb_world.specs.Step.{run, step, world_after}
-use Rattle.urb_world.specs.World.{World}
-use Rattle.urb_names.specs.CarriedPackets.{Carried}
-use Rattle.urb_names.specs.Nodes.{is_node}
-use Rattle.urb_names.specs.declared.refusal.Refusal.TheVariants as refusal
-use Rattle.urb_node.specs.Part.{Down, Node, Ready, State, Storing}
-use Rattle.urb_node.specs.Replies.{Refused, Reply, packets_in}
-use Rattle.urb_node.specs.Steps.{commits, next_position, restarts, same_record, says}
-use Rattle.urb_stable.specs.Entries.{Entry}
+use Rattle.urb_world.specs.RecoveredWorlds.{Goes}
+use Rattle.urb_world.specs.RecoveryPlans.{packets_of}
+use Rattle.urb_world.specs.Rounds.{Ticks as Ticking}
 use Rattle.urb_world.proofs.rounds.ActCases.{act-cases}
+use Rattle.urb_names.specs.declared.refusal.Refusal.TheVariants as refusal
 
 -- ---- acts of lists behind one another
 

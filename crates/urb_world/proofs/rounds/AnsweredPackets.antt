@@ -1,9 +1,16 @@
 -- The answers to packets that are carried: what they say, and that they may be carried themselves.
-use Rattle.std.proofs.Common.{Bool, List, None, Ok, Option, Some, [], ap, append-nil, append_assoc}
-use Rattle.std.proofs.Common.{is_none, not, refl, slice_get, subst, sym, true, ℕ, ◌++◌, ◌==◌, ◌||◌, ◌∙◌, ◌∷◌}
-use Rattle.std.proofs.Common.{◌≡◌}
-use Rattle.std.proofs.lemmas.Bool.{cond_both}
-use Rattle.std.specs.List.{AllByRecursion}
+use Rattle.urb_world.proofs.Common.{Act, Adds, AllByRecursion, Arrive, Arrives, Begins, Bool}
+use Rattle.urb_world.proofs.Common.{Breaks, Carried, Commit, Down, Drafted, Event, Flags, Label}
+use Rattle.urb_world.proofs.Common.{Limits, List, Node, NodesKept, None, Ok, Option, Ready, Refused}
+use Rattle.urb_world.proofs.Common.{Reply, Restart, Same, Sent, Some, State, Stored, Storing}
+use Rattle.urb_world.proofs.Common.{WentDown, World, [], acked, act_of, acts_of, after, all_append}
+use Rattle.urb_world.proofs.Common.{all_weaker, answers, answers_of, ap, append-nil, append_assoc}
+use Rattle.urb_world.proofs.Common.{arrival_by, carries, cert, comes_back, cond_both, counts}
+use Rattle.urb_world.proofs.Common.{disturbance, each, has_name, image_with, is_node, is_none}
+use Rattle.urb_world.proofs.Common.{majority_passes, message_of, next_position, not, packets_in}
+use Rattle.urb_world.proofs.Common.{pend, readied, receipt_of, refl, run, slice_get, step, stores}
+use Rattle.urb_world.proofs.Common.{subst, sym, tick_by, true, truthful, with_ack, ℕ, ◌++◌, ◌==◌}
+use Rattle.urb_world.proofs.Common.{◌||◌, ◌∙◌, ◌∷◌, ◌≡◌}
 use Rattle.urb_world.proofs.recovery.CarriedPackets.{Carriable, all-carried, arrive-is}
 use Rattle.urb_world.proofs.recovery.CarriedPackets.{carriable-stays, carries-reaches}
 use Rattle.urb_world.proofs.recovery.EventPlans.{after-append}
@@ -16,27 +23,8 @@ use Rattle.urb_world.proofs.steps.ArrivalCases.{any-heard}
 use Rattle.urb_world.proofs.steps.Growth.{begins-itself, begins-trans}
 use Rattle.urb_world.proofs.steps.Runs.{run-tells, step-sends}
 use Rattle.urb_world.proofs.ticks.Membership.{IsIn, all-in, in-all, in-left, in-place, in-right}
-use Rattle.urb_world.specs.RunInvariant.{NodesKept}
-use Rattle.urb_world.specs.RecoveryPlans.{after, carries, comes_back, each, image_with, readied}
-use Rattle.urb_world.specs.RecoveryPlans.{receipt_of, stores}
-use Rattle.urb_world.specs.Rounds.{Act, Adds, Arrives, Breaks, Ticks, act_of, acts_of, arrival_by}
-use Rattle.urb_world.specs.Rounds.{disturbance, tick_by}
-use Rattle.urb_world.specs.Step.{Arrive, Commit, Event, Restart, run, step}
-use Rattle.urb_world.specs.World.{World, truthful}
-use Rattle.urb_names.proofs.SentPairs.{all_append, all_weaker}
-use Rattle.urb_names.specs.Acknowledgements.{acked, with_ack}
-use Rattle.urb_names.specs.ListPrefixes.{Begins}
-use Rattle.urb_names.specs.CarriedPackets.{Carried}
-use Rattle.urb_names.specs.Names.{has_name}
-use Rattle.urb_names.specs.LabelsAndContents.{Label, Limits}
-use Rattle.urb_names.specs.Nodes.{is_node, majority_passes}
-use Rattle.urb_names.specs.Pairs.{message_of}
-use Rattle.urb_names.specs.declared.flags.Flags.{Flags}
-use Rattle.urb_node.specs.Part.{Down, Node, Ready, State, Storing}
-use Rattle.urb_node.specs.Replies.{Drafted, Refused, Reply, Same, Sent, Stored, Up, WentDown}
-use Rattle.urb_node.specs.Replies.{packets_in}
-use Rattle.urb_node.specs.Steps.{answers, answers_of, counts, next_position}
-use Rattle.urb_stable.specs.Records.{cert, pend}
+use Rattle.urb_world.specs.Rounds.{Ticks}
+use Rattle.urb_node.specs.Replies.{Up}
 
 -- the answers to all packets that arrive
 abbrev pub answers_in : List Act → List Carried

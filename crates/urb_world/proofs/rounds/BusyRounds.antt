@@ -1,13 +1,17 @@
 -- Busy rounds among nodes that are up. After one round, what one of them knew or held is known to
 -- all of them, or held. After the next it is certified. So two rounds deliver, once the records
 -- that are held then are stored.
-use Rattle.std.proofs.Common.{Bool, List, Some, ap, arith, eqb-true, false, length, ltb-true}
-use Rattle.std.proofs.Common.{map, nat_lt, refl, subst, suc, sym, take, true, zero, ℕ}
-use Rattle.std.proofs.Common.{⊎_elim, ◌*◌, ◌+◌, ◌++◌, ◌-◌, ◌==◌, ◌∙◌, ◌≡◌, ◌≤◌}
-use Rattle.std.proofs.lemmas.Bool.{and_parts, cases_Bool, false≢true}
+use Rattle.urb_world.proofs.Common.{Act, AreUp, Begins, Bool, Content, Entry, Event}
+use Rattle.urb_world.proofs.Common.{HasDeliveredHeld, IsBusyRoundAmong, IsHeldAmong, IsNotStranded}
+use Rattle.urb_world.proofs.Common.{IsRoundAmong, Label, Limits, List, NAMES_PER_TICK, Node, Ready}
+use Rattle.urb_world.proofs.Common.{Some, World, acked, acts_of, after, and_parts, ap, arith}
+use Rattle.urb_world.proofs.Common.{cases_Bool, cert, eqb-true, false, false≢true, has_name}
+use Rattle.urb_world.proofs.Common.{has_pair, is_node, length, log, ltb-true, majority_grows}
+use Rattle.urb_world.proofs.Common.{majority_passes, map, message_of, name, names, nat_lt, part_of}
+use Rattle.urb_world.proofs.Common.{pend, refl, row, run, subst, suc, sym, take, true, zero, ℕ}
+use Rattle.urb_world.proofs.Common.{⊎_elim, ◌*◌, ◌++◌, ◌+◌, ◌-◌, ◌==◌, ◌∙◌, ◌≡◌, ◌≤◌}
 use Rattle.std.proofs.Math.Seq.{take-append-add}
 use Rattle.std.proofs.lemmas.List.{map-append}
-use Rattle.urb_names.specs.declared.limits.TheConstants.{NAMES_PER_TICK}
 use Rattle.urb_world.proofs.recovery.CertifiedNames.{in_order, own-known, reaches-number}
 use Rattle.urb_world.proofs.recovery.CountedArrivals.{knows}
 use Rattle.urb_world.proofs.recovery.UnstrandedGroups.{run-free}
@@ -19,28 +23,12 @@ use Rattle.urb_world.proofs.rounds.RoundActs.{all-arrive, ticks-counted}
 use Rattle.urb_world.proofs.rounds.SentPairs.{TicksEnough, stored-at-end}
 use Rattle.urb_world.proofs.rounds.UpNodes.{run-hears}
 use Rattle.urb_world.proofs.rounds.LastingCounts.{IsCountedAt, run-size}
-use Rattle.urb_world.proofs.rounds.WholeNodes.{whole, whole-acked, whole-certified}
-use Rattle.urb_world.proofs.rounds.WholeNodes.{whole-knows, whole-ready, whole-records}
+use Rattle.urb_world.proofs.rounds.WholeNodes.{whole, whole-acked, whole-certified, whole-knows}
+use Rattle.urb_world.proofs.rounds.WholeNodes.{whole-ready, whole-records}
 use Rattle.urb_world.proofs.steps.Growth.{begins-trans, run-goes_on}
-use Rattle.urb_world.specs.RecoveredWorlds.{IsNotStranded}
-use Rattle.urb_world.specs.RecoveryPlans.{after}
-use Rattle.urb_world.specs.Rounds.{Act, AreUp, HasDeliveredHeld, IsBusyRoundAmong, IsHeldAmong}
-use Rattle.urb_world.specs.Rounds.{IsRoundAmong, acts_of, ticks_of}
-use Rattle.urb_world.specs.Step.{Event, run}
-use Rattle.urb_world.specs.World.{World, stored}
-use Rattle.urb_names.proofs.LogRows.{row, row-split}
-use Rattle.urb_names.proofs.SameNames.{majority_grows}
-use Rattle.urb_names.specs.Acknowledgements.{acked}
-use Rattle.urb_names.specs.ListPrefixes.{Begins}
-use Rattle.urb_names.specs.Names.{has_name, name, names}
-use Rattle.urb_names.specs.LabelsAndContents.{Content, Label, Limits}
-use Rattle.urb_names.specs.Nodes.{is_node, majority_passes}
-use Rattle.urb_names.specs.Pairs.{has_pair, message_of}
-use Rattle.urb_names.specs.Release.{part_of}
-use Rattle.urb_node.specs.Part.{Node, Ready}
-use Rattle.urb_stable.specs.Entries.{Entry}
-use Rattle.urb_stable.specs.DeliveredLogs.{log}
-use Rattle.urb_stable.specs.Records.{cert, pend}
+use Rattle.urb_world.specs.Rounds.{ticks_of}
+use Rattle.urb_world.specs.World.{stored}
+use Rattle.urb_names.proofs.LogRows.{row-split}
 
 -- a round is a busy one
 pub round-busy : (among : ℕ → Bool) (acts : List Act) (end : World) → IsRoundAmong among acts end

@@ -1,15 +1,9 @@
 -- Words for lists of events in which a node ticks among other events.
-use Rattle.std.specs.Prelude.{Bool, List, [], false, if◌then◌else◌, suc, ℕ, ◌==◌, ◌∷◌}
-use Rattle.std.specs.Prelude.{◌≡◌, ◌⊎◌, true}
-use Rattle.std.specs.List.{AllByRecursion}
-use Rattle.urb_world.specs.Step.{Event, Tick, step}
-use Rattle.urb_world.specs.World.{World, stored}
-use Rattle.urb_names.specs.CarriedPackets.{Carried, due_of}
-use Rattle.urb_names.specs.CyclicOrder.{rising}
-use Rattle.urb_names.specs.LabelsAndContents.{Content, Label}
-use Rattle.urb_names.specs.Pairs.{has_pair}
-use Rattle.urb_node.specs.Replies.{Reply, Sent}
-use Rattle.urb_stable.specs.Records.{pend}
+use Rattle.urb_world.proofs.Common.{AllByRecursion, Bool, Carried, Content, Event, Label, List}
+use Rattle.urb_world.proofs.Common.{Reply, Sent, Tick, World, [], due_of, false, has_pair}
+use Rattle.urb_world.proofs.Common.{if◌then◌else◌, pend, rising, step, suc, true, ℕ, ◌==◌, ◌∷◌, ◌≡◌}
+use Rattle.urb_world.proofs.Common.{◌⊎◌}
+use Rattle.urb_world.specs.World.{stored}
 
 -- whether the event is a tick of node p
 abbrev pub is_tick_of : ℕ → Event → Bool

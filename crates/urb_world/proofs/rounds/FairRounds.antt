@@ -1,8 +1,11 @@
 -- The laws of rounds. Two busy rounds deliver what was stored before them. Two rounds in which
 -- nothing is submitted deliver everything, because no name is new.
-use Rattle.std.proofs.Common.{Bool, List, arith, ltb-true, nat_lt, subst, suc, sym, true, ℕ}
-use Rattle.std.proofs.Common.{◌∙◌, ◌≡◌}
-use Rattle.std.proofs.lemmas.Bool.{and_parts}
+use Rattle.urb_world.proofs.Common.{Act, AllDelivered, AllUp, AreUp, Bool, Event, HasDeliveredHeld}
+use Rattle.urb_world.proofs.Common.{IsBusyRound, IsBusyRoundAmong, IsNotStranded, IsReached}
+use Rattle.urb_world.proofs.Common.{IsRound, IsRoundAmong, IsUnbroken, IsUndisturbed, Label, Limits}
+use Rattle.urb_world.proofs.Common.{List, Ready, World, acts_of, after, and_parts, arith, cert}
+use Rattle.urb_world.proofs.Common.{has_name, is_node, ltb-true, majority_passes, nat_lt, subst}
+use Rattle.urb_world.proofs.Common.{suc, sym, true, ℕ, ◌∙◌, ◌≡◌}
 use Rattle.urb_world.proofs.recovery.FullDelivery.{all-majority, reached-sound}
 use Rattle.urb_world.proofs.recovery.CertifiedNames.{AllCertified, certified-delivered}
 use Rattle.urb_world.proofs.recovery.CountedArrivals.{knows}
@@ -11,23 +14,13 @@ use Rattle.urb_world.proofs.recovery.ContinuedWorlds.{Sound, known-sender, run-s
 use Rattle.urb_world.proofs.rounds.BusyRounds.{certified-at, held-delivered, round-busy}
 use Rattle.urb_world.proofs.rounds.BusyRounds.{stored-messages, stored-names}
 use Rattle.urb_world.proofs.rounds.KnownNames.{Names, run-names, whole-sender}
-use Rattle.urb_world.proofs.rounds.ProceedingEvents.{Proceeding, Proceeds, ProceedsQuietly, proceeding}
-use Rattle.urb_world.proofs.rounds.ProceedingEvents.{quietly-proceeds, undisturbed-unbroken}
+use Rattle.urb_world.proofs.rounds.ProceedingEvents.{Proceeding, Proceeds, ProceedsQuietly}
+use Rattle.urb_world.proofs.rounds.ProceedingEvents.{proceeding, quietly-proceeds}
+use Rattle.urb_world.proofs.rounds.ProceedingEvents.{undisturbed-unbroken}
 use Rattle.urb_world.proofs.rounds.LastingCounts.{run-size}
 use Rattle.urb_world.proofs.rounds.WholeNodes.{whole, whole-knows}
-use Rattle.urb_world.specs.RecoveredWorlds.{AllDelivered, IsNotStranded}
-use Rattle.urb_world.specs.RecoveryPlans.{after}
-use Rattle.urb_world.specs.Rounds.{Act, AllUp, AreUp, HasDeliveredHeld, HasDeliveredStored}
-use Rattle.urb_world.specs.Rounds.{HaveDeliveredHeld, IsBusyRound, IsBusyRoundAmong, IsRound}
-use Rattle.urb_world.specs.Rounds.{IsRoundAmong, IsUnbroken, IsUndisturbed, ReadyHaveDelivered}
-use Rattle.urb_world.specs.Rounds.{acts_of}
-use Rattle.urb_world.specs.Step.{Event, IsReached}
-use Rattle.urb_world.specs.World.{World, stored}
-use Rattle.urb_names.specs.Names.{has_name}
-use Rattle.urb_names.specs.LabelsAndContents.{Label, Limits}
-use Rattle.urb_names.specs.Nodes.{is_node, majority_passes}
-use Rattle.urb_node.specs.Part.{Ready}
-use Rattle.urb_stable.specs.Records.{cert}
+use Rattle.urb_world.specs.Rounds.{HasDeliveredStored, HaveDeliveredHeld, ReadyHaveDelivered}
+use Rattle.urb_world.specs.World.{stored}
 
 -- ---- all nodes
 

@@ -1,32 +1,22 @@
 -- What the worked examples judge to be a round is one.
-use Rattle.std.proofs.Common.{Bool, List, None, Option, Some, [], ap, arith, eqb-true, false}
-use Rattle.std.proofs.Common.{length, ltb-true, nat_lt, refl, suc, true, ℕ, ⊎_elim, ◌&&◌}
-use Rattle.std.proofs.Common.{◌*◌, ◌++◌, ◌==◌, ◌∙◌, ◌∷◌, ◌≡◌, inl, inr}
-use Rattle.std.proofs.lemmas.Bool.{and_parts, false≢true, or_cases}
-use Rattle.std.specs.List.{AllByRecursion, list_all}
-use Rattle.urb_names.specs.declared.limits.TheConstants.{NAMES_PER_TICK}
+use Rattle.urb_world.proofs.Common.{Act, Adds, AllByRecursion, AnswersArrive, Arrives, Bool, Breaks}
+use Rattle.urb_world.proofs.Common.{Carried, Content, DoArrive, DoesArrive, Down, Event, Flags}
+use Rattle.urb_world.proofs.Common.{IsBusyRound, IsRound, IsRoundAmong, IsUnbroken, IsUndisturbed}
+use Rattle.urb_world.proofs.Common.{Label, List, NAMES_PER_TICK, None, Option, Ready, Some, State}
+use Rattle.urb_world.proofs.Common.{Storing, TicksArrive, World, [], acts_of, after, and_parts, ap}
+use Rattle.urb_world.proofs.Common.{arith, eqb-true, false, false≢true, held_by, inl, inr, is_node}
+use Rattle.urb_world.proofs.Common.{length, list_all, ltb-true, nat_lt, nodes, or_cases, pend, refl}
+use Rattle.urb_world.proofs.Common.{same_message, same_message-true, same_name, same_name-true, suc}
+use Rattle.urb_world.proofs.Common.{true, ℕ, ⊎_elim, ◌&&◌, ◌*◌, ◌++◌, ◌==◌, ◌∙◌, ◌∷◌, ◌≡◌}
 use Rattle.urb_world.proofs.recovery.PendingNames.{in-list_all}
 use Rattle.urb_world.proofs.recovery.NodeLists.{in-nodes}
-use Rattle.urb_world.specs.RecoveryPlans.{after}
 use Rattle.urb_world.specs.internal.RoundExamples.{BusyVerdict, Verdict, a_busy_round, a_round}
 use Rattle.urb_world.specs.internal.RoundExamples.{answers_arrive, does_arrive, is_ready}
 use Rattle.urb_world.specs.internal.RoundExamples.{is_unbroken, is_undisturbed, judged, judged_acts}
 use Rattle.urb_world.specs.internal.RoundExamples.{judged_busy, same_bit, same_flags, same_packet}
 use Rattle.urb_world.specs.internal.RoundExamples.{ticks_arrive}
-use Rattle.urb_world.specs.Rounds.{Act, Adds, AnswersArrive, Arrives, Breaks, DoArrive, DoesArrive}
-use Rattle.urb_world.specs.Rounds.{IsBusyRound, IsRound, IsRoundAmong, IsUnbroken, IsUndisturbed}
-use Rattle.urb_world.specs.Rounds.{Ticks, TicksArrive, acts_of, ticks_of}
-use Rattle.urb_world.specs.Scenes.{held_by}
-use Rattle.urb_world.specs.Step.{Event}
-use Rattle.urb_world.specs.World.{World, stored}
-use Rattle.urb_names.proofs.SameNames.{same_message-true, same_name-true}
-use Rattle.urb_names.specs.CarriedPackets.{Carried}
-use Rattle.urb_names.specs.Names.{same_message, same_name}
-use Rattle.urb_names.specs.LabelsAndContents.{Content, Label}
-use Rattle.urb_names.specs.Nodes.{is_node, nodes}
-use Rattle.urb_names.specs.declared.flags.Flags.{Flags}
-use Rattle.urb_node.specs.Part.{Down, Ready, State, Storing}
-use Rattle.urb_stable.specs.Records.{pend}
+use Rattle.urb_world.specs.Rounds.{Ticks, ticks_of}
+use Rattle.urb_world.specs.World.{stored}
 
 same_bit-true : (a b : Bool) → same_bit a b ≡ true → a ≡ b
 same_bit-true true true h = refl

@@ -1,8 +1,12 @@
 -- No name is new if nothing is submitted: every name that a node knows, also by the record that it
 -- holds, its sender knew already.
-use Rattle.std.proofs.Common.{Err, List, Ok, [], ap, append-nil, eqb-true, false, if◌then◌else◌}
-use Rattle.std.proofs.Common.{is_some, subst, sym, true, ℕ, ⊎_elim, ◌++◌, ◌==◌, ◌∙◌, ◌∷◌, ◌≡◌}
-use Rattle.std.proofs.lemmas.Bool.{cases_Bool, cond-false}
+use Rattle.urb_world.proofs.Common.{Arrive, Carried, Cert, Commit, Content, Down, Entry, Err, Event}
+use Rattle.urb_world.proofs.Common.{IsDone, Label, Limits, List, Node, Ok, Pend, PendCert, Ready}
+use Rattle.urb_world.proofs.Common.{Restart, State, StateKept, Storing, Tick, World, [], after, ap}
+use Rattle.urb_world.proofs.Common.{append-nil, cases_Bool, commits, cond-false, eqb-true, false}
+use Rattle.urb_world.proofs.Common.{has_pair, if◌then◌else◌, is_down, is_node, is_some, keeps_c}
+use Rattle.urb_world.proofs.Common.{message_of, pend, pend-append, resends, restarts, run, step}
+use Rattle.urb_world.proofs.Common.{subst, sym, true, updated, ℕ, ⊎_elim, ◌++◌, ◌==◌, ◌∙◌, ◌∷◌, ◌≡◌}
 use Rattle.urb_world.proofs.steps.DraftsInSteps.{event_node, step-elsewhere, step-size}
 use Rattle.urb_world.proofs.rounds.LastingCounts.{Arrived, arrive-done, at-node-done, commit-whole}
 use Rattle.urb_world.proofs.rounds.LastingCounts.{node-is, restart-not, took}
@@ -12,22 +16,7 @@ use Rattle.urb_world.proofs.rounds.ProceedingEvents.{IsQuiet, ProceedsQuietly, q
 use Rattle.urb_world.proofs.recovery.CountedArrivals.{knows, only-joined, settled}
 use Rattle.urb_world.proofs.rounds.UpNodes.{step-hears, tick-node}
 use Rattle.urb_world.proofs.steps.ConfirmedPackets.{borne-pair}
-use Rattle.urb_world.specs.RunInvariant.{StateKept}
-use Rattle.urb_world.specs.RecoveredWorlds.{IsDone}
-use Rattle.urb_world.specs.RecoveryPlans.{after}
-use Rattle.urb_world.specs.Step.{Arrive, Commit, Event, Restart, Tick, run, step}
-use Rattle.urb_world.specs.World.{World, stored, updated}
-use Rattle.urb_names.specs.CarriedPackets.{Carried}
-use Rattle.urb_names.specs.LabelsAndContents.{Content, Label, Limits}
-use Rattle.urb_names.specs.Nodes.{is_node}
-use Rattle.urb_names.specs.Pairs.{has_pair, message_of}
-use Rattle.urb_node.specs.Part.{Down, Node, Ready, State, Storing}
-use Rattle.urb_node.specs.Steps.{commits, is_down, resends, restarts}
-use Rattle.urb_stable.proofs.JoinedRecords.{pend-append}
-use Rattle.urb_stable.specs.Entries.{Entry}
-use Rattle.urb_stable.specs.Fitting.{keeps_c}
-use Rattle.urb_stable.specs.Records.{pend}
-use Rattle.urb_stable.specs.declared.record.Record.TheVariants.{Cert, Pend, PendCert}
+use Rattle.urb_world.specs.World.{stored}
 
 -- ---- what nodes hold, their senders hold
 

@@ -1,9 +1,14 @@
 -- What a node has counted, through events that are no failure and not refused. The record that it
 -- holds is taken as stored. A packet that arrives is counted.
-use Rattle.std.proofs.Common.{Err, List, Ok, Option, [], ap, eqb-true, false, refl, subst}
-use Rattle.std.proofs.Common.{sym, true, ℕ, ◌&&◌, ◌++◌, ◌==◌, ◌∙◌, ◌∷◌, ◌≡◌}
-use Rattle.std.proofs.lemmas.Bool.{and_parts, cond_both, false≢true}
-use Rattle.urb_world.proofs.steps.DraftsInSteps.{event_node, step-size, step-each}
+use Rattle.urb_world.proofs.Common.{Arrive, Carried, Commit, Down, Entry, Err, Event, IsDone, Label}
+use Rattle.urb_world.proofs.Common.{Limits, List, Node, Ok, Option, Ready, Refused, Reply, Restart}
+use Rattle.urb_world.proofs.Common.{State, Stored, Storing, Submit, Tick, World, [], after}
+use Rattle.urb_world.proofs.Common.{and_parts, ap, arrives, at_node, commits, cond_both, done}
+use Rattle.urb_world.proofs.Common.{eqb-true, false, false≢true, is_down, is_for, is_node}
+use Rattle.urb_world.proofs.Common.{keeps_record, next_position, packet_arrives, refl, refuses}
+use Rattle.urb_world.proofs.Common.{resends, restarts, run, same_record, step, submits, subst, sym}
+use Rattle.urb_world.proofs.Common.{true, truthful, world_after, ℕ, ◌&&◌, ◌++◌, ◌==◌, ◌∙◌, ◌∷◌, ◌≡◌}
+use Rattle.urb_world.proofs.steps.DraftsInSteps.{event_node, step-each, step-size}
 use Rattle.urb_world.proofs.steps.Growth.{begins-itself, begins-trans, step-goes_on}
 use Rattle.urb_world.proofs.steps.OneNodeStep.{updated-at}
 use Rattle.urb_world.proofs.recovery.ContinuedWorlds.{Sound, run-sound}
@@ -13,21 +18,9 @@ use Rattle.urb_world.proofs.rounds.SubmitCounts.{submit-further}
 use Rattle.urb_world.proofs.rounds.WholeNodes.{Further, begins-whole, further-itself, further-trans}
 use Rattle.urb_world.proofs.rounds.WholeNodes.{knows-begins, whole}
 use Rattle.urb_world.proofs.rounds.ProceedingEvents.{IsNoFailure, Proceeds}
-use Rattle.urb_world.specs.RecoveredWorlds.{IsDone}
-use Rattle.urb_world.specs.RecoveryPlans.{after}
-use Rattle.urb_world.specs.Step.{Arrive, Commit, Event, Restart, Submit, Tick, at_node}
-use Rattle.urb_world.specs.Step.{is_for, packet_arrives, run, step, world_after}
-use Rattle.urb_world.specs.World.{World, stored, truthful}
-use Rattle.urb_names.specs.CarriedPackets.{Carried}
-use Rattle.urb_names.specs.LabelsAndContents.{Label, Limits}
-use Rattle.urb_names.specs.Nodes.{is_node}
-use Rattle.urb_names.specs.declared.refusal.Refusal.TheVariants as refusal
-use Rattle.urb_node.specs.Part.{Down, Node, Ready, State, Storing}
-use Rattle.urb_node.specs.Replies.{Refused, Reply, Stored}
-use Rattle.urb_node.specs.Steps.{arrives, commits, done, is_down, keeps_record, next_position}
-use Rattle.urb_node.specs.Steps.{refuses, resends, restarts, same_record, submits}
-use Rattle.urb_stable.specs.Entries.{Entry}
+use Rattle.urb_world.specs.World.{stored}
 use Rattle.urb_world.proofs.steps.StepCases.{packet-cases}
+use Rattle.urb_names.specs.declared.refusal.Refusal.TheVariants as refusal
 
 -- ---- an arrival
 

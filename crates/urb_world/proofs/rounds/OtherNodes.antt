@@ -1,10 +1,9 @@
 -- A majority has another node than any given one, except in a group of one.
-use Rattle.std.proofs.Common.{Bool, List, ap, arith, count_by, eqb-true, false, filter, inl, inr}
-use Rattle.std.proofs.Common.{length, ltb-true, refl, suc, true, zero, ℕ}
-use Rattle.std.proofs.Common.{⊎_elim, ◌*◌, ◌<◌, ◌==◌, ◌∙◌, ◌∷◌, ◌≡◌, ◌≤◌, ◌⊎◌}
-use Rattle.std.proofs.lemmas.Bool.{cases_Bool, cond-false, cond-true}
-use Rattle.std.proofs.lemmas.List.Sums.{length-filter}
-use Rattle.urb_names.specs.Nodes.{majority_passes, nodes, numbers_from}
+use Rattle.urb_world.proofs.Common.{Bool, List, ap, arith, cases_Bool, cond-false, cond-true}
+use Rattle.urb_world.proofs.Common.{count_by, eqb-true, false, filter, inl, inr, length}
+use Rattle.urb_world.proofs.Common.{length-filter, ltb-true, majority_passes, nodes, numbers_from}
+use Rattle.urb_world.proofs.Common.{refl, suc, true, zero, ℕ, ⊎_elim, ◌*◌, ◌<◌, ◌==◌, ◌∙◌, ◌∷◌, ◌≡◌}
+use Rattle.urb_world.proofs.Common.{◌≤◌, ◌⊎◌}
 
 module _ (among : ℕ → Bool) (q : ℕ) where
   -- one of them other than q

@@ -1,25 +1,16 @@
 -- Lists of events that proceed: none of them is a failure, and none is refused. Every unbroken list
 -- proceeds once the events that count for nothing and leave the world as it is are left out.
-use Rattle.std.proofs.Common.{Err, List, Ok, [], ap, ap₂, append-nil, inl, inr, refl, subst, sym, ℕ}
-use Rattle.std.proofs.Common.{⊎_elim, ◌++◌, ◌∙◌, ◌∷◌, ◌≡◌, ◌⊎◌}
-use Rattle.std.proofs.lemmas.Bool.{cond_both}
+use Rattle.urb_world.proofs.Common.{Act, Adds, Arrive, Arrives, Breaks, Carried, Content, Crash}
+use Rattle.urb_world.proofs.Common.{Down, Drafted, Err, Event, Fail, IsDone, IsUnbroken}
+use Rattle.urb_world.proofs.Common.{IsUndisturbed, Limits, List, Node, Ok, Ready, Refusal, Refused}
+use Rattle.urb_world.proofs.Common.{Reply, State, Storing, Submit, WentDown, World, [], act_of}
+use Rattle.urb_world.proofs.Common.{acts_of, after, ap, append-nil, ap₂, at_node, cond_both}
+use Rattle.urb_world.proofs.Common.{crashes, disturbance, fails, inl, inr, is_down, is_node}
+use Rattle.urb_world.proofs.Common.{packets_in, refl, run, step, submits, submits-cases, subst, sym}
+use Rattle.urb_world.proofs.Common.{world_after, ℕ, ⊎_elim, ◌++◌, ◌∙◌, ◌∷◌, ◌≡◌, ◌⊎◌}
 use Rattle.urb_world.proofs.safety.Refusals.{refused-stays, same_nodes}
-use Rattle.urb_world.specs.RecoveredWorlds.{IsDone}
-use Rattle.urb_world.specs.RecoveryPlans.{after}
-use Rattle.urb_world.specs.Rounds.{Act, Adds, Arrives, Breaks, IsUnbroken, IsUndisturbed, Ticks}
-use Rattle.urb_world.specs.Rounds.{act_of, acts_of, disturbance}
-use Rattle.urb_world.specs.Step.{Arrive, Crash, Event, Fail, Submit, at_node}
-use Rattle.urb_world.specs.Step.{run, step, world_after}
-use Rattle.urb_world.specs.World.{World}
-use Rattle.urb_names.specs.CarriedPackets.{Carried}
-use Rattle.urb_names.specs.LabelsAndContents.{Content, Limits}
-use Rattle.urb_names.specs.Nodes.{is_node}
-use Rattle.urb_names.specs.declared.refusal.Refusal.{Refusal}
+use Rattle.urb_world.specs.Rounds.{Ticks}
 use Rattle.urb_names.specs.declared.refusal.Refusal.TheVariants as refusal
-use Rattle.urb_node.specs.Part.{Down, Node, Ready, State, Storing}
-use Rattle.urb_node.specs.Replies.{Drafted, Refused, Reply, WentDown, packets_in}
-use Rattle.urb_node.specs.Steps.{crashes, fails, is_down, submits}
-use Rattle.urb_node.proofs.SubmitCases.{submits-cases}
 
 -- no crash and no failed store
 abbrev pub IsNoFailure : Event → Type 0

@@ -1,19 +1,14 @@
 -- What events that proceed count as in a round, event by event.
-use Rattle.std.proofs.Common.{Bool, List, Ok, Result, [], ap, if◌then◌else◌, inl, inr, refl, subst}
-use Rattle.std.proofs.Common.{suc, sym, true, ℕ, ⊎_elim, ◌&&◌, ◌++◌, ◌∙◌, ◌∷◌, ◌≡◌, ◌⊎◌}
-use Rattle.std.specs.List.{AllByRecursion}
+use Rattle.urb_world.proofs.Common.{Act, AllByRecursion, Arrive, Bool, Carried, DoArrive}
+use Rattle.urb_world.proofs.Common.{DoesArrive, Event, IsDone, List, Ok, PacketFault, Reply, Result}
+use Rattle.urb_world.proofs.Common.{Tick, TicksArrive, World, [], act_of, acts_of, ap, arrival_by}
+use Rattle.urb_world.proofs.Common.{disturbance, if◌then◌else◌, inl, inr, refl, step, subst, suc}
+use Rattle.urb_world.proofs.Common.{sym, tick_by, true, ℕ, ⊎_elim, ◌&&◌, ◌++◌, ◌∙◌, ◌∷◌, ◌≡◌, ◌⊎◌}
 use Rattle.urb_world.proofs.rounds.LastingCounts.{arrive-done}
 use Rattle.urb_world.proofs.rounds.ProceedingEvents.{Proceeds, acts-more, acts-none}
 use Rattle.urb_world.proofs.rounds.UpNodes.{tick-done}
 use Rattle.urb_world.proofs.rounds.EventTicks.{IsAmong, is_tick_of, resent_by, ticks_among}
-use Rattle.urb_world.specs.RecoveredWorlds.{IsDone}
-use Rattle.urb_world.specs.Rounds.{Act, DoArrive, DoesArrive, TicksArrive, act_of, acts_of}
-use Rattle.urb_world.specs.Rounds.{arrival_by, disturbance, tick_by, ticks_of}
-use Rattle.urb_world.specs.Step.{Arrive, Event, Tick, step}
-use Rattle.urb_world.specs.World.{World}
-use Rattle.urb_names.specs.CarriedPackets.{Carried}
-use Rattle.urb_names.specs.declared.refusal.PacketFault.{PacketFault}
-use Rattle.urb_node.specs.Replies.{Reply}
+use Rattle.urb_world.specs.Rounds.{ticks_of}
 use Rattle.urb_world.proofs.rounds.ActCases.{act-cases, disturbance-cases}
 use Rattle.urb_world.specs.EventEffects.{event_node}
 

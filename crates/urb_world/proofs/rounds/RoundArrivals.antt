@@ -1,7 +1,8 @@
 -- A round in which the packets of ticks arrive: each other node hears what a node had pending.
-use Rattle.std.proofs.Common.{Bool, List, Ok, [], ap, false, is_some, subst, sym, true, ℕ}
-use Rattle.std.proofs.Common.{⊎_elim, ◌&&◌, ◌==◌, ◌∷◌, ◌≡◌}
-use Rattle.std.proofs.lemmas.Bool.{and_from}
+use Rattle.urb_world.proofs.Common.{Arrive, Bool, Carried, Content, Event, Label, List, Ok, Tick}
+use Rattle.urb_world.proofs.Common.{World, [], acked, after, and_from, ap, false, has_pair, is_down}
+use Rattle.urb_world.proofs.Common.{is_node, is_some, kept-held, pend, run, step, subst, sym, true}
+use Rattle.urb_world.proofs.Common.{ℕ, ⊎_elim, ◌&&◌, ◌==◌, ◌∷◌, ◌≡◌}
 use Rattle.urb_world.proofs.rounds.RoundActs.{AllArrive}
 use Rattle.urb_world.proofs.rounds.LastingCounts.{IsCountedAt, sound-counted}
 use Rattle.urb_world.proofs.rounds.WholeNodes.{whole, whole-certified, whole-knows}
@@ -12,17 +13,7 @@ use Rattle.urb_world.proofs.recovery.ContinuedWorlds.{Sound, run-sound}
 use Rattle.urb_world.proofs.rounds.ProceedingEvents.{Proceeds}
 use Rattle.urb_world.proofs.recovery.CountedArrivals.{certified-counts}
 use Rattle.urb_world.proofs.ticks.Membership.{in-all}
-use Rattle.urb_world.specs.RecoveryPlans.{after}
-use Rattle.urb_world.specs.Step.{Arrive, Event, Tick, run, step}
-use Rattle.urb_world.specs.World.{World, stored}
-use Rattle.urb_names.specs.Acknowledgements.{acked}
-use Rattle.urb_names.specs.CarriedPackets.{Carried}
-use Rattle.urb_names.specs.LabelsAndContents.{Content, Label}
-use Rattle.urb_names.specs.Nodes.{is_node}
-use Rattle.urb_names.specs.Pairs.{has_pair}
-use Rattle.urb_node.specs.Steps.{is_down}
-use Rattle.urb_stable.proofs.KeptRules.{kept-held}
-use Rattle.urb_stable.specs.Records.{pend}
+use Rattle.urb_world.specs.World.{stored}
 
 -- a packet that arrives among these events is counted in the end
 arrive-among : (events : List Event) (u : World) (packet : Carried) → Sound u → Proceeds u events

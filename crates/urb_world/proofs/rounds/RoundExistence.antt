@@ -1,9 +1,14 @@
 -- There is a round from every world of a run, also one whose answers arrive. All nodes come back.
 -- They tick, one after the other, as often as there are messages. Then each packet arrives, and the
 -- record that it may draft is stored. Then the answers arrive, and then the answers to these.
-use Rattle.std.proofs.Common.{Bool, List, [], ap, append-nil, arith, false, length, subst, sym, true}
-use Rattle.std.proofs.Common.{ℕ, ◌++◌, ◌∙◌, ◌∷◌, ◌≡◌, ◌≤◌}
-use Rattle.std.specs.List.{AllByRecursion}
+use Rattle.urb_world.proofs.Common.{Act, Adds, AllByRecursion, AnswersArrive, Arrives, Bool, Breaks}
+use Rattle.urb_world.proofs.Common.{Carried, DoesArrive, Event, IsNotStranded, IsReached, IsRound}
+use Rattle.urb_world.proofs.Common.{IsRoundAmong, Limits, List, Node, TicksArrive, World, []}
+use Rattle.urb_world.proofs.Common.{acts_of, after, all_back, all_weaker, answers-certify}
+use Rattle.urb_world.proofs.Common.{answers-hear, answers_of, ap, append-nil, arith, carries, each}
+use Rattle.urb_world.proofs.Common.{false, heard-silent, is_node, length, nodes, pend}
+use Rattle.urb_world.proofs.Common.{says_certified, says_heard, subst, sym, taken, true, ℕ, ◌++◌}
+use Rattle.urb_world.proofs.Common.{◌∙◌, ◌∷◌, ◌≡◌, ◌≤◌}
 use Rattle.urb_world.proofs.recovery.FullDelivery.{reached-sound}
 use Rattle.urb_world.proofs.recovery.CarriedPackets.{Carriable, IsToldBy, all-carried}
 use Rattle.urb_world.proofs.recovery.EventPlans.{Reaches, after-append, goes-append}
@@ -12,8 +17,8 @@ use Rattle.urb_world.proofs.recovery.ReturningNodes.{all-back}
 use Rattle.urb_world.proofs.recovery.PendingNames.{names-taken}
 use Rattle.urb_world.proofs.recovery.ContinuedWorlds.{Calm, Onward, Sound, onward-further}
 use Rattle.urb_world.proofs.rounds.ActLists.{acts-append, goes-quietly, proceeds-calm}
-use Rattle.urb_world.proofs.rounds.AnsweredPackets.{Answer, all-answered, answers_in}
-use Rattle.urb_world.proofs.rounds.AnsweredPackets.{back-silent, ticks-silent}
+use Rattle.urb_world.proofs.rounds.AnsweredPackets.{Answer, all-answered, answers_in, back-silent}
+use Rattle.urb_world.proofs.rounds.AnsweredPackets.{ticks-silent}
 use Rattle.urb_world.proofs.rounds.ProceedingEvents.{Proceeds}
 use Rattle.urb_world.proofs.rounds.RoundActs.{ticks-counted}
 use Rattle.urb_world.proofs.rounds.RoundParts.{all-are, all-do, all-tick, among-append}
@@ -21,20 +26,10 @@ use Rattle.urb_world.proofs.rounds.RoundParts.{arrive-before, arrive-behind, bac
 use Rattle.urb_world.proofs.rounds.RoundParts.{carries-no_tick, goes-proceeds, no_tick-then}
 use Rattle.urb_world.proofs.rounds.RoundParts.{often-enough, ticking, ticks-then}
 use Rattle.urb_world.proofs.ticks.Membership.{IsIn, all-in, in-all, in-left, in-right}
-use Rattle.urb_world.specs.RecoveredWorlds.{Goes, IsNotStranded}
-use Rattle.urb_world.specs.RecoveryPlans.{after, all_back, carries, each, packets_of}
-use Rattle.urb_world.specs.Rounds.{Act, Adds, AnswersArrive, Arrives, Breaks, DoesArrive, IsRound}
-use Rattle.urb_world.specs.Rounds.{IsRoundAmong, Ticks, TicksArrive, acts_of, taken, ticks_of}
-use Rattle.urb_world.specs.Step.{Event, IsReached}
-use Rattle.urb_world.specs.World.{World, stored}
-use Rattle.urb_names.proofs.SentPairs.{all_weaker}
-use Rattle.urb_names.specs.CarriedPackets.{Carried, says_certified}
-use Rattle.urb_names.specs.LabelsAndContents.{Limits}
-use Rattle.urb_names.specs.Nodes.{is_node, nodes}
-use Rattle.urb_node.proofs.FinalAnswers.{answers-certify, answers-hear, heard-silent}
-use Rattle.urb_node.specs.Part.{Node}
-use Rattle.urb_node.specs.Steps.{answers_of, says_heard}
-use Rattle.urb_stable.specs.Records.{pend}
+use Rattle.urb_world.specs.RecoveredWorlds.{Goes}
+use Rattle.urb_world.specs.RecoveryPlans.{packets_of}
+use Rattle.urb_world.specs.Rounds.{Ticks, ticks_of}
+use Rattle.urb_world.specs.World.{stored}
 
 -- ---- answers that arrive
 

@@ -1,40 +1,31 @@
 -- Parts of a round that exists from every world of a run. Nodes come back. They tick, one after the
 -- other. Then each packet arrives, and the record that it may draft is stored.
-use Rattle.std.proofs.Common.{Bool, List, Ok, [], ap, append_assoc, arith, eq-eqb}
-use Rattle.std.proofs.Common.{if◌then◌else◌, inl, inr, refl, subst, suc, sym, true}
-use Rattle.std.proofs.Common.{zero, ℕ, ⊎_elim, ◌&&◌, ◌+◌, ◌++◌, ◌==◌, ◌∙◌, ◌∷◌, ◌≡◌, ◌≤◌}
-use Rattle.std.proofs.lemmas.Bool.{cond-false, cond-true, cond_both}
-use Rattle.std.specs.List.{AllByRecursion}
+use Rattle.urb_world.proofs.Common.{Act, Adds, AllByRecursion, Arrive, Arrives, Bool, Breaks}
+use Rattle.urb_world.proofs.Common.{Carried, DoesArrive, Down, Event, IsDone, Limits, List, Node}
+use Rattle.urb_world.proofs.Common.{Ok, Plan, Ready, Reply, State, Storing, Tick, TicksArrive}
+use Rattle.urb_world.proofs.Common.{World, [], act_of, acts_of, after, all_append, ap, append_assoc}
+use Rattle.urb_world.proofs.Common.{arith, arrival_by, carries, comes_back, cond-false, cond-true}
+use Rattle.urb_world.proofs.Common.{cond_both, each, eq-eqb, if◌then◌else◌, inl, inr, is_node}
+use Rattle.urb_world.proofs.Common.{packets_in, readied, receipt_of, refl, resends, run, step}
+use Rattle.urb_world.proofs.Common.{stores, subst, suc, sym, tick_by, true, world_after, zero, ℕ}
+use Rattle.urb_world.proofs.Common.{⊎_elim, ◌&&◌, ◌++◌, ◌+◌, ◌==◌, ◌∙◌, ◌∷◌, ◌≡◌, ◌≤◌}
 use Rattle.urb_world.proofs.rounds.ActLists.{acts-append, goes-quietly, packets-append}
 use Rattle.urb_world.proofs.steps.ArrivalCases.{arrive-cases}
-use Rattle.urb_world.proofs.recovery.CarriedPackets.{Carriable}
-use Rattle.urb_world.proofs.recovery.CarriedPackets.{carriable-stays}
+use Rattle.urb_world.proofs.recovery.CarriedPackets.{Carriable, carriable-stays}
 use Rattle.urb_world.proofs.rounds.LastingCounts.{arrive-done}
 use Rattle.urb_world.proofs.rounds.EventTicks.{is_tick_of, ticks_among}
 use Rattle.urb_world.proofs.recovery.ContinuedWorlds.{Calm, Onward, onward-further, onward-still}
-use Rattle.urb_world.proofs.recovery.EventPlans.{Reaches, after-none}
-use Rattle.urb_world.proofs.recovery.EventPlans.{reaches-append, reaches-none, reaches-weaker}
-use Rattle.urb_world.proofs.rounds.ProceedingEvents.{Proceeds, acts-more, acts-none}
-use Rattle.urb_world.proofs.rounds.ProceedingEvents.{after-more, quietly-proceeds}
+use Rattle.urb_world.proofs.recovery.EventPlans.{Reaches, after-none, reaches-append, reaches-none}
+use Rattle.urb_world.proofs.recovery.EventPlans.{reaches-weaker}
+use Rattle.urb_world.proofs.rounds.ProceedingEvents.{Proceeds, acts-more, acts-none, after-more}
+use Rattle.urb_world.proofs.rounds.ProceedingEvents.{quietly-proceeds}
 use Rattle.urb_world.proofs.recovery.OneRound.{calm-ticks, may-carry, onward-ticks, ticks}
 use Rattle.urb_world.proofs.ticks.Membership.{IsIn, all-in, in-all, in-left, in-right}
 use Rattle.urb_world.proofs.rounds.UpNodes.{tick-done}
 use Rattle.urb_world.proofs.recovery.TickPackets.{tick_events}
-use Rattle.urb_world.specs.RecoveredWorlds.{Goes, IsDone}
-use Rattle.urb_world.specs.RecoveryPlans.{Plan, after, carries, comes_back, each, packets_of}
-use Rattle.urb_world.specs.RecoveryPlans.{readied, receipt_of, stores}
-use Rattle.urb_world.specs.Rounds.{Act, Adds, Arrives, Breaks, DoesArrive}
-use Rattle.urb_world.specs.Rounds.{Ticks as Ticking, TicksArrive, act_of, acts_of, arrival_by}
-use Rattle.urb_world.specs.Rounds.{tick_by}
-use Rattle.urb_world.specs.Step.{Arrive, Event, Tick, run, step, world_after}
-use Rattle.urb_world.specs.World.{World}
-use Rattle.urb_names.proofs.SentPairs.{all_append}
-use Rattle.urb_names.specs.CarriedPackets.{Carried}
-use Rattle.urb_names.specs.LabelsAndContents.{Limits}
-use Rattle.urb_names.specs.Nodes.{is_node}
-use Rattle.urb_node.specs.Part.{Down, Node, Ready, State, Storing}
-use Rattle.urb_node.specs.Replies.{Reply, packets_in}
-use Rattle.urb_node.specs.Steps.{resends}
+use Rattle.urb_world.specs.RecoveredWorlds.{Goes}
+use Rattle.urb_world.specs.RecoveryPlans.{packets_of}
+use Rattle.urb_world.specs.Rounds.{Ticks as Ticking}
 use Rattle.urb_world.proofs.rounds.ActCases.{act-cases}
 
 -- ---- the ticks

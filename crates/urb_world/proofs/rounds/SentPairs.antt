@@ -1,11 +1,13 @@
 -- Ticks among other events. What a node had pending is sent to another node if it stays unheard
 -- there. So whatever follows from sending it holds.
-use Rattle.std.proofs.Common.{List, Option, [], ap, arith, eq-eqb, false}
-use Rattle.std.proofs.Common.{inl, inr, length, refl, subst, suc, sym, true, ℕ, ⊎_elim, ◌*◌}
-use Rattle.std.proofs.Common.{◌++◌, ◌<◌, ◌==◌, ◌∙◌, ◌∷◌, ◌≡◌, ◌≤◌, ◌⊎◌}
-use Rattle.std.proofs.lemmas.Bool.{cases_Bool, cond-false, cond-true, cond_both, false≢true}
-use Rattle.std.specs.List.{AllByRecursion}
-use Rattle.urb_names.specs.declared.limits.TheConstants.{NAMES_PER_TICK}
+use Rattle.urb_world.proofs.Common.{AllByRecursion, Content, Event, IsDone, IsDueAmong, Label}
+use Rattle.urb_world.proofs.Common.{Limits, List, NAMES_PER_TICK, Node, Option, Ready, Reply, Tick}
+use Rattle.urb_world.proofs.Common.{World, [], acked, after, ap, are_rising, arith, cases_Bool}
+use Rattle.urb_world.proofs.Common.{cond-false, cond-true, cond_both, cursor_next, cyclic, due_of}
+use Rattle.urb_world.proofs.Common.{eq-eqb, false, false≢true, has_pair, inl, inr, is_down, is_due}
+use Rattle.urb_world.proofs.Common.{is_node, length, pend, refl, resent, rising, run, step, subst}
+use Rattle.urb_world.proofs.Common.{suc, sym, true, ℕ, ⊎_elim, ◌*◌, ◌++◌, ◌<◌, ◌==◌, ◌∙◌, ◌∷◌, ◌≡◌}
+use Rattle.urb_world.proofs.Common.{◌≤◌, ◌⊎◌}
 use Rattle.urb_world.proofs.steps.DraftsInSteps.{step-size}
 use Rattle.urb_world.proofs.rounds.LastingCounts.{run-further, step-further}
 use Rattle.urb_world.proofs.ticks.DueTurns.{at-turn, due-passes, in-has, in-unfilter, turn-below}
@@ -19,26 +21,11 @@ use Rattle.urb_world.proofs.recovery.ContinuedWorlds.{Sound, run-sound}
 use Rattle.urb_world.proofs.ticks.PassedPairs.{Nearer}
 use Rattle.urb_world.proofs.rounds.ProceedingEvents.{Proceeds, after-more}
 use Rattle.urb_world.proofs.recovery.CountedArrivals.{settled}
-use Rattle.urb_world.proofs.ticks.Membership.{IsIn, all-in}
-use Rattle.urb_world.proofs.ticks.Membership.{in-pairs}
-use Rattle.urb_world.proofs.rounds.UpNodes.{run-hears, step-hears, step-stays, tick-done}
-use Rattle.urb_world.proofs.rounds.UpNodes.{tick-node, tick-of, tick-ready}
+use Rattle.urb_world.proofs.ticks.Membership.{IsIn, all-in, in-pairs}
+use Rattle.urb_world.proofs.rounds.UpNodes.{run-hears, step-hears, step-stays, tick-done, tick-node}
+use Rattle.urb_world.proofs.rounds.UpNodes.{tick-of, tick-ready}
 use Rattle.urb_world.proofs.rounds.WholeNodes.{whole, whole-more, whole-ready}
-use Rattle.urb_world.specs.RecoveredWorlds.{IsDone}
-use Rattle.urb_world.specs.RecoveryPlans.{after}
-use Rattle.urb_world.specs.Resends.{IsDueAmong, cursor_next}
-use Rattle.urb_world.specs.Step.{Event, Tick, run, step}
-use Rattle.urb_world.specs.World.{World, stored}
-use Rattle.urb_names.specs.Acknowledgements.{acked}
-use Rattle.urb_names.specs.CarriedPackets.{due_of, is_due}
-use Rattle.urb_names.specs.CyclicOrder.{are_rising, cyclic, resent, rising}
-use Rattle.urb_names.specs.LabelsAndContents.{Content, Label, Limits}
-use Rattle.urb_names.specs.Nodes.{is_node}
-use Rattle.urb_names.specs.Pairs.{has_pair}
-use Rattle.urb_node.specs.Part.{Node, Ready}
-use Rattle.urb_node.specs.Replies.{Reply}
-use Rattle.urb_node.specs.Steps.{is_down}
-use Rattle.urb_stable.specs.Records.{pend}
+use Rattle.urb_world.specs.World.{stored}
 use Rattle.urb_world.proofs.recovery.EventPlans.{after-one}
 
 abbrev Pairs : Type 0

@@ -1,53 +1,42 @@
 -- What follows once every name that a node knows is certified everywhere. Records stay as they are,
 -- answers make certificates heard, and no name is due any more.
-use Rattle.std.proofs.Common.{Bool, Err, List, None, Ok, Option, Some, [], ap, false, filter}
-use Rattle.std.proofs.Common.{flat_map, inl, inr, is_none, is_some, length, not, refl, subst, sym}
-use Rattle.std.proofs.Common.{true, ℕ, ⊎_elim, ◌&&◌, ◌*◌, ◌++◌, ◌==◌, ◌∙◌, ◌∷◌, ◌≡◌, ◌≤◌}
-use Rattle.std.proofs.lemmas.Bool.{and_from, cases_Bool, cond-false, cond_both, false≢true, or_from}
-use Rattle.std.specs.List.{list_any}
-use Rattle.urb_names.specs.declared.limits.TheConstants.{NAMES_PER_TICK}
+use Rattle.urb_world.proofs.Common.{Act, Adds, AllUp, Answered, AnswersArrive, Arrive, Arrives}
+use Rattle.urb_world.proofs.Common.{Bool, Breaks, Carried, Commit, Content, Down, Entry, Err, Event}
+use Rattle.urb_world.proofs.Common.{Flags, IsDone, IsNotStranded, IsReached, IsRound, IsRoundAmong}
+use Rattle.urb_world.proofs.Common.{IsUndisturbed, Label, Limits, List, NAMES_PER_TICK, Node, None}
+use Rattle.urb_world.proofs.Common.{Ok, Option, Ready, Reply, Restart, Same, Some, State, Storing}
+use Rattle.urb_world.proofs.Common.{Tick, World, [], acked, act_of, acts_of, after, and_from}
+use Rattle.urb_world.proofs.Common.{answers, ap, arrival_by, arrives, cases_Bool, cert, commits}
+use Rattle.urb_world.proofs.Common.{cond-false, cond_both, false, false≢true, filter, flat_map}
+use Rattle.urb_world.proofs.Common.{has_name, has_pair, hears, inl, inr, is_down, is_due, is_node}
+use Rattle.urb_world.proofs.Common.{is_none, is_some, kept-held, length, list_any, message_of}
+use Rattle.urb_world.proofs.Common.{nodes, not, others, pend, refl, reply_to, resent, restarts}
+use Rattle.urb_world.proofs.Common.{rising, run, says_certified, step, subst, sym, to_unheard, true}
+use Rattle.urb_world.proofs.Common.{ℕ, ⊎_elim, ◌&&◌, ◌*◌, ◌++◌, ◌==◌, ◌∙◌, ◌∷◌, ◌≡◌, ◌≤◌}
+use Rattle.std.proofs.lemmas.Bool.{or_from}
 use Rattle.urb_world.proofs.rounds.RoundActs.{AllArrive, all-arrive, does-arrive, ticks-counted}
 use Rattle.urb_world.proofs.recovery.CertifiedNames.{AllCertified}
 use Rattle.urb_world.proofs.rounds.FairRounds.{two-rounds-certify}
-use Rattle.urb_world.proofs.steps.DraftsInSteps.{event_node, step-size, step-each}
+use Rattle.urb_world.proofs.steps.DraftsInSteps.{event_node, step-each, step-size}
 use Rattle.urb_world.proofs.rounds.LastingCounts.{arrive-done, at-node-done, restart-not, run-size}
-use Rattle.urb_world.proofs.recovery.NodeLists.{packet_to, filtered-in, nodes-in}
+use Rattle.urb_world.proofs.recovery.NodeLists.{filtered-in, nodes-in, packet_to}
 use Rattle.urb_world.proofs.rounds.SentPairs.{Comes, Sends, comes-about}
 use Rattle.urb_world.proofs.rounds.EventTicks.{IsAmong, resent_by, resent_in, ticks_among}
 use Rattle.urb_world.proofs.ticks.DueTurns.{in-has}
 use Rattle.urb_world.proofs.ticks.DuePairs.{has_pair-rising}
 use Rattle.urb_world.proofs.steps.OneNodeStep.{updated-at}
 use Rattle.urb_world.proofs.recovery.ContinuedWorlds.{knows-pair, run-sound}
-use Rattle.urb_world.proofs.rounds.ProceedingEvents.{IsQuiet, Proceeding, ProceedsQuietly, acts-more}
-use Rattle.urb_world.proofs.rounds.ProceedingEvents.{acts-none, proceeding, quiet-no_failure}
-use Rattle.urb_world.proofs.rounds.ProceedingEvents.{quietly-proceeds, undisturbed-unbroken}
+use Rattle.urb_world.proofs.rounds.ProceedingEvents.{IsQuiet, Proceeding, ProceedsQuietly}
+use Rattle.urb_world.proofs.rounds.ProceedingEvents.{acts-more, acts-none, proceeding}
+use Rattle.urb_world.proofs.rounds.ProceedingEvents.{quiet-no_failure, quietly-proceeds}
+use Rattle.urb_world.proofs.rounds.ProceedingEvents.{undisturbed-unbroken}
 use Rattle.urb_world.proofs.rounds.WholeNodes.{whole, whole-ready}
 use Rattle.urb_world.proofs.recovery.CountedArrivals.{knows, settled}
 use Rattle.urb_world.proofs.ticks.Membership.{IsIn, in-all}
 use Rattle.urb_world.proofs.rounds.UpNodes.{run-hears, step-hears, tick-done, tick-node}
 use Rattle.urb_world.proofs.steps.ConfirmedPackets.{borne-pair}
-use Rattle.urb_world.specs.RecoveredWorlds.{IsDone, IsNotStranded}
-use Rattle.urb_world.specs.RecoveryPlans.{after}
-use Rattle.urb_world.specs.Rounds.{Act, Adds, AllUp, AnswersArrive, Arrives, Breaks, IsRound}
-use Rattle.urb_world.specs.Rounds.{IsRoundAmong, IsUndisturbed, NoneDue, Ticks, TicksAreSilent}
-use Rattle.urb_world.specs.Rounds.{act_of, acts_of, arrival_by}
-use Rattle.urb_world.specs.Step.{Arrive, Commit, Event, IsReached, Restart, Tick, run, step}
-use Rattle.urb_world.specs.World.{World, stored}
-use Rattle.urb_names.specs.Acknowledgements.{acked}
-use Rattle.urb_names.specs.CarriedPackets.{Carried, is_due, others, says_certified, to_unheard}
-use Rattle.urb_names.specs.CyclicOrder.{resent, rising}
-use Rattle.urb_names.specs.Names.{has_name}
-use Rattle.urb_names.specs.LabelsAndContents.{Content, Label, Limits}
-use Rattle.urb_names.specs.Nodes.{is_node, nodes}
-use Rattle.urb_names.specs.Pairs.{has_pair, message_of}
-use Rattle.urb_names.specs.declared.flags.Flags.{Flags}
-use Rattle.urb_node.specs.Part.{Down, Node, Ready, State, Storing}
-use Rattle.urb_node.specs.Replies.{Reply, Same}
-use Rattle.urb_node.specs.Steps.{answers, arrives, commits, hears, is_down, reply_to, restarts}
-use Rattle.urb_node.specs.declared.answer.Answer.TheVariants.{Answered}
-use Rattle.urb_stable.proofs.KeptRules.{kept-held}
-use Rattle.urb_stable.specs.Entries.{Entry}
-use Rattle.urb_stable.specs.Records.{cert, pend}
+use Rattle.urb_world.specs.Rounds.{NoneDue, Ticks, TicksAreSilent}
+use Rattle.urb_world.specs.World.{stored}
 use Rattle.urb_world.proofs.steps.StepCases.{step-cases}
 use Rattle.urb_node.proofs.FinalAnswers.{heard-then}
 use Rattle.urb_world.proofs.rounds.ActCases.{act-cases}

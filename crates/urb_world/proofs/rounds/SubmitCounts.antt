@@ -1,32 +1,21 @@
 -- A submit that is drafted: with the new record taken as stored, the node has counted what it had,
 -- and itself for the new name.
-use Rattle.std.proofs.Common.{List, None, Some, [], arith, eq-eqb, eqb-true, false}
-use Rattle.std.proofs.Common.{length, ltb-true, nat_lt, refl, subst, suc, sym, true, ℕ}
-use Rattle.std.proofs.Common.{⊎_elim, ◌++◌, ◌==◌, ◌||◌, ◌∙◌, ◌∷◌, ◌≡◌}
-use Rattle.std.proofs.lemmas.Bool.{and_parts, cond-true, false_from_ne_true, false≢true, or_cases}
+use Rattle.urb_world.proofs.Common.{Content, Entry, IsDone, IsNew, Label, Limits, List, Node}
+use Rattle.urb_world.proofs.Common.{NodeKept, None, Pend, PendCert, Reply, Some, [], acked}
+use Rattle.urb_world.proofs.Common.{acks_after, and_parts, arith, broadcast_after, cert, cond-true}
+use Rattle.urb_world.proofs.Common.{drafts, eq-eqb, eqb-true, false, false_from_ne_true, false≢true}
+use Rattle.urb_world.proofs.Common.{has_name, heard_after, is_node, keeps_record, kept-held}
+use Rattle.urb_world.proofs.Common.{kept-numbered, length, ltb-true, majority_passes, message_of}
+use Rattle.urb_world.proofs.Common.{name, nat_lt, next_name, or_cases, own, pend, refl, submits}
+use Rattle.urb_world.proofs.Common.{submits-cases, subst, suc, sym, true, with_ack, ℕ, ⊎_elim, ◌++◌}
+use Rattle.urb_world.proofs.Common.{◌==◌, ◌||◌, ◌∙◌, ◌∷◌, ◌≡◌}
 use Rattle.urb_world.proofs.hearing.CountedNodes.{acked-itself}
 use Rattle.urb_world.proofs.recovery.CountedArrivals.{Counts, certified-last, certifies-itself}
 use Rattle.urb_world.proofs.recovery.CountedArrivals.{counted, few, pair_settles}
 use Rattle.urb_world.proofs.rounds.OtherNodes.{another}
 use Rattle.urb_world.proofs.rounds.WholeNodes.{Further, further-itself, whole, whole-ready}
 use Rattle.urb_world.proofs.steps.Growth.{begins-push}
-use Rattle.urb_world.specs.RunInvariant.{NodeKept}
-use Rattle.urb_world.specs.RecoveredWorlds.{IsDone}
 use Rattle.urb_names.proofs.Places.{get_none}
-use Rattle.urb_names.specs.Acknowledgements.{acked, with_ack}
-use Rattle.urb_names.specs.Names.{has_name, name}
-use Rattle.urb_names.specs.LabelsAndContents.{Content, Label, Limits}
-use Rattle.urb_names.specs.Nodes.{is_node, majority_passes}
-use Rattle.urb_names.specs.Pairs.{message_of, own}
-use Rattle.urb_node.proofs.SubmitCases.{IsNew, next_name, submits-cases}
-use Rattle.urb_node.specs.Part.{Node}
-use Rattle.urb_node.specs.Replies.{Reply}
-use Rattle.urb_node.specs.Steps.{acks_after, broadcast_after, drafts, heard_after, keeps_record}
-use Rattle.urb_node.specs.Steps.{submits}
-use Rattle.urb_stable.proofs.KeptRules.{kept-held, kept-numbered}
-use Rattle.urb_stable.specs.Entries.{Entry}
-use Rattle.urb_stable.specs.Records.{cert, pend}
-use Rattle.urb_stable.specs.declared.record.Record.TheVariants.{Pend, PendCert}
 
 -- a node is no majority by itself, unless it is alone
 one-is-few : (n p : ℕ) → is_node n p ≡ true → (n == 1) ≡ false

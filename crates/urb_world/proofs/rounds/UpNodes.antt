@@ -1,31 +1,17 @@
 -- What a node that is up keeps through an event that is no failure and not refused. It stays up,
 -- and still has heard what it heard. Its cursor stays, except at its own ticks.
-use Rattle.std.proofs.Common.{List, [], None, Option, Some, ap, eq-eqb, eqb-true, false, is_none}
-use Rattle.std.proofs.Common.{not, refl, subst, sym, true, ℕ, ⊎_elim, ◌==◌, ◌||◌, ◌∙◌, ◌∷◌, ◌≡◌}
-use Rattle.std.proofs.lemmas.Bool.{cases_Bool, cond_both, false≢true}
+use Rattle.urb_world.proofs.Common.{Cause, Cert, Content, Down, Entry, Event, Flags, IsDone, Label}
+use Rattle.urb_world.proofs.Common.{Limits, List, Node, None, Option, Pend, PendCert, Ready, Reply}
+use Rattle.urb_world.proofs.Common.{Some, Tick, World, [], acked, after, answers, ap, arrives}
+use Rattle.urb_world.proofs.Common.{cases_Bool, cert, cond_both, counts, eq-eqb, eqb-true, false}
+use Rattle.urb_world.proofs.Common.{false≢true, has_name, heard_after, heard_of, hears, is_down}
+use Rattle.urb_world.proofs.Common.{is_none, majority_passes, message_of, not, pend, refl, resends}
+use Rattle.urb_world.proofs.Common.{run, says_certified, step, subst, sym, true, with_ack}
+use Rattle.urb_world.proofs.Common.{with_heard, world_after, ℕ, ⊎_elim, ◌==◌, ◌||◌, ◌∙◌, ◌∷◌, ◌≡◌}
 use Rattle.urb_world.proofs.steps.DraftsInSteps.{event_node, step-each}
 use Rattle.urb_world.proofs.rounds.EventTicks.{is_tick_of}
 use Rattle.urb_world.proofs.rounds.ProceedingEvents.{IsNoFailure, Proceeds}
-use Rattle.urb_world.specs.RecoveredWorlds.{IsDone}
 use Rattle.urb_world.proofs.steps.OneNodeStep.{updated-at}
-use Rattle.urb_world.specs.RecoveryPlans.{after}
-use Rattle.urb_world.specs.Step.{Event, Tick, run, step, world_after}
-use Rattle.urb_world.specs.World.{World}
-use Rattle.urb_names.specs.Acknowledgements.{acked, with_ack}
-use Rattle.urb_names.specs.CarriedPackets.{says_certified}
-use Rattle.urb_names.specs.Names.{has_name}
-use Rattle.urb_names.specs.LabelsAndContents.{Content, Label, Limits}
-use Rattle.urb_names.specs.Nodes.{majority_passes}
-use Rattle.urb_names.specs.Pairs.{message_of}
-use Rattle.urb_names.specs.declared.flags.Flags.{Flags}
-use Rattle.urb_node.specs.Part.{Down, Node, Ready}
-use Rattle.urb_node.specs.Replies.{Reply}
-use Rattle.urb_node.specs.Steps.{answers, arrives, counts, heard_after, heard_of, hears, is_down}
-use Rattle.urb_node.specs.Steps.{resends, with_heard}
-use Rattle.urb_node.specs.declared.cause.Cause.{Cause}
-use Rattle.urb_stable.specs.Entries.{Entry}
-use Rattle.urb_stable.specs.Records.{cert, pend}
-use Rattle.urb_stable.specs.declared.record.Record.TheVariants.{Cert, Pend, PendCert}
 use Rattle.urb_world.proofs.steps.StepCases.{OutcomeCases, node_of, outcome-cases, step-cases}
 use Rattle.urb_world.proofs.steps.StepCases.{step-here, ticks-cases}
 use Rattle.urb_world.proofs.hearing.CountedNodes.{acked-stays}

@@ -1,27 +1,16 @@
 -- A node with the record that it holds taken as stored: what it knows, has certified and has
 -- counted.
-use Rattle.std.proofs.Common.{List, Option, ap, append-nil, arith, is_some, length, refl, subst}
-use Rattle.std.proofs.Common.{sym, true, ℕ, ◌++◌, ◌≡◌, ◌≤◌}
+use Rattle.urb_world.proofs.Common.{Begins, Cause, Cert, Content, Down, Entry, Label, List, Node}
+use Rattle.urb_world.proofs.Common.{Option, Pend, PendCert, Ready, State, Storing, acked}
+use Rattle.urb_world.proofs.Common.{acks_after, ap, append-nil, arith, cert, has_name, held_by}
+use Rattle.urb_world.proofs.Common.{is_some, length, message_of, pend, pend-append, refl}
+use Rattle.urb_world.proofs.Common.{some_found, subst, sym, true, ℕ, ◌++◌, ◌≡◌, ◌≤◌}
 use Rattle.std.proofs.lemmas.List.{length-append}
 use Rattle.urb_world.proofs.hearing.CountedNodes.{acked-stays, cause-stays}
 use Rattle.urb_world.proofs.recovery.CountedArrivals.{Counts, knows, settled}
 use Rattle.urb_world.proofs.recovery.ContinuedWorlds.{found-begins}
 use Rattle.urb_world.proofs.steps.Growth.{begins-itself, begins-push, begins-trans}
 use Rattle.urb_world.proofs.steps.Growth.{certificate-begins}
-use Rattle.urb_world.specs.Scenes.{held_by}
-use Rattle.urb_names.proofs.FoundPairs.{some_found}
-use Rattle.urb_names.specs.Acknowledgements.{acked}
-use Rattle.urb_names.specs.ListPrefixes.{Begins}
-use Rattle.urb_names.specs.Names.{has_name}
-use Rattle.urb_names.specs.LabelsAndContents.{Content, Label}
-use Rattle.urb_names.specs.Pairs.{message_of}
-use Rattle.urb_node.specs.Part.{Down, Node, Ready, State, Storing}
-use Rattle.urb_node.specs.Steps.{acks_after}
-use Rattle.urb_node.specs.declared.cause.Cause.{Cause}
-use Rattle.urb_stable.proofs.JoinedRecords.{pend-append}
-use Rattle.urb_stable.specs.Entries.{Entry}
-use Rattle.urb_stable.specs.Records.{cert, pend}
-use Rattle.urb_stable.specs.declared.record.Record.TheVariants.{Cert, Pend, PendCert}
 
 -- the node, with the record that it holds stored
 abbrev pub whole : ℕ → Node → Node

@@ -1,36 +1,25 @@
 -- A submit is accepted only when its message is stored.
-use Rattle.std.proofs.Common.{Bool, List, Option, Some, [], ap, cond, eqb-true, false, find}
-use Rattle.std.proofs.Common.{slice_get, refl, subst, suc, sym, true, ℕ, ◌&&◌, ◌==◌, ◌∙◌, ◌∷◌, ◌≡◌}
-use Rattle.std.proofs.lemmas.Bool.{and_from, and_parts, cond_both, false≢true}
+use Rattle.urb_world.proofs.Common.{Accepted, Bool, Cause, Cert, Commit, Content, Done, Down, Entry}
+use Rattle.urb_world.proofs.Common.{Label, List, Node, NodesKept, Option, Pend, PendCert, Ready}
+use Rattle.urb_world.proofs.Common.{Refused, Reply, Same, Some, State, Stored, Storing, Submit}
+use Rattle.urb_world.proofs.Common.{World, [], and_from, and_parts, ap, commits, cond, cond_both}
+use Rattle.urb_world.proofs.Common.{done, eqb-true, false, false≢true, find, first_name, has_pair}
+use Rattle.urb_world.proofs.Common.{has_pair-found, has_pair-head, is_node, is_numbered}
+use Rattle.urb_world.proofs.Common.{keeps_record, kept-numbered, message_of, name, name_of}
+use Rattle.urb_world.proofs.Common.{next_position, pend, pend-append, position_or_len, refl}
+use Rattle.urb_world.proofs.Common.{same_message-true, same_record, slice_get, step, submits-cases}
+use Rattle.urb_world.proofs.Common.{subst, suc, sym, true, world_after, ℕ, ◌&&◌, ◌==◌, ◌∙◌, ◌∷◌}
+use Rattle.urb_world.proofs.Common.{◌≡◌}
 use Rattle.std.proofs.lemmas.List.Folds.{find_at}
-use Rattle.std.specs.List.{position_or_len}
 use Rattle.urb_world.proofs.steps.OneNodeStep.{updated-at}
 use Rattle.urb_world.specs.Acceptance.{HasStored, StoresOwn}
-use Rattle.urb_world.specs.RunInvariant.{NodesKept}
-use Rattle.urb_world.specs.Step.{Commit, Submit, step, world_after}
-use Rattle.urb_world.specs.World.{World, stored}
-use Rattle.urb_names.proofs.FoundPairs.{has_pair-found, has_pair-right}
-use Rattle.urb_names.proofs.OrderedPairs.{has_pair-head}
-use Rattle.urb_names.proofs.SameNames.{same_message-true}
-use Rattle.urb_names.specs.Names.{name}
-use Rattle.urb_names.specs.LabelsAndContents.{Content, Label}
-use Rattle.urb_names.specs.Nodes.{is_node}
-use Rattle.urb_names.specs.Pairs.{has_pair, is_numbered, message_of}
-use Rattle.urb_node.specs.Part.{Down, Node, Ready, State, Storing}
-use Rattle.urb_node.specs.Replies.{Done, Refused, Reply, Same, Stored}
-use Rattle.urb_node.specs.Steps.{commits, done, is_accepted, keeps_record, next_position}
-use Rattle.urb_node.specs.Steps.{same_record}
-use Rattle.urb_node.specs.declared.answer.Answer.TheVariants.{Accepted}
-use Rattle.urb_stable.proofs.JoinedRecords.{pend-append}
-use Rattle.urb_stable.proofs.KeptRules.{kept-numbered}
-use Rattle.urb_stable.specs.Entries.{Entry, name_of}
-use Rattle.urb_stable.specs.Records.{pend}
-use Rattle.urb_stable.specs.declared.record.Record.TheVariants.{Cert, Pend, PendCert}
-use Rattle.urb_names.specs.declared.refusal.Refusal.TheVariants as refusal
-use Rattle.urb_node.specs.declared.cause.Cause.{Cause}
+use Rattle.urb_world.specs.World.{stored}
+use Rattle.urb_names.proofs.FoundPairs.{has_pair-right}
+use Rattle.urb_node.specs.Steps.{is_accepted}
 use Rattle.urb_node.proofs.RestartReplies.{same_record-true}
-use Rattle.urb_node.proofs.SubmitCases.{IsAgain, first_name, submits-cases}
+use Rattle.urb_node.proofs.SubmitCases.{IsAgain}
 use Rattle.urb_world.proofs.steps.StepCases.{step-cases}
+use Rattle.urb_names.specs.declared.refusal.Refusal.TheVariants as refusal
 
 -- what is found passes the test
 found-passes : {X : Type 0} (test : X → Bool) (xs : List X) (a : X) → find test xs ≡ Some a

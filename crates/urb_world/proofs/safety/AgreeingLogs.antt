@@ -1,28 +1,17 @@
 -- For each sender, what one of two nodes delivers is a prefix of what the other delivers. What is
 -- delivered only grows at its end.
-use Rattle.std.proofs.Common.{List, Option, Some, [], ap, ap₂, arith, inl, inr, length}
-use Rattle.std.proofs.Common.{length-append, length-take, map, refl, subst, suc, sym, take, true}
-use Rattle.std.proofs.Common.{zero, ℕ, ⊎_elim, ◌++◌, ◌∙◌, ◌∷◌, ◌≡◌, ◌≤◌}
-use Rattle.std.proofs.lemmas.Bool.{cases_lt, or_left, or_right}
-use Rattle.std.proofs.lemmas.List.{length-map, take-append-le}
-use Rattle.std.proofs.lemmas.List.Elements.{filter-append}
+use Rattle.urb_world.proofs.Common.{AgreeInTime, Begins, Content, EntriesGrow, Entry, GoesOn}
+use Rattle.urb_world.proofs.Common.{IsInOrder, Label, List, OneBegins, Option, Safe, Some, World}
+use Rattle.urb_world.proofs.Common.{[], ap, ap₂, arith, cases_lt, entries, filter-append, has_name}
+use Rattle.urb_world.proofs.Common.{inl, inr, length, length-map, length-take, log, map, message_of}
+use Rattle.urb_world.proofs.Common.{message_of-more, name, or_left, or_right, part_of, pend}
+use Rattle.urb_world.proofs.Common.{pend-append, refl, row, same_name, same_name-same, subst, suc}
+use Rattle.urb_world.proofs.Common.{sym, take, take-append-le, true, zero, ℕ, ⊎_elim, ◌++◌, ◌∙◌}
+use Rattle.urb_world.proofs.Common.{◌∷◌, ◌≡◌, ◌≤◌}
+use Rattle.std.proofs.Common.{length-append}
 use Rattle.urb_world.proofs.steps.Growth.{begins-trans, log-begins}
-use Rattle.urb_world.specs.RunMoments.{AgreeInTime, EntriesGrow, GoesOn}
-use Rattle.urb_world.specs.SafetyProperties.{IsInOrder, Safe}
-use Rattle.urb_names.specs.ListPrefixes.{Begins, OneBegins}
-use Rattle.urb_world.specs.World.{World, stored}
-use Rattle.urb_names.proofs.LogRows.{row}
-use Rattle.urb_names.specs.Names.{name}
-use Rattle.urb_names.specs.LabelsAndContents.{Content, Label}
-use Rattle.urb_names.specs.Pairs.{message_of}
-use Rattle.urb_names.specs.Release.{part_of}
-use Rattle.urb_names.proofs.FoundPairs.{message_of-more}
-use Rattle.urb_names.proofs.SameNames.{same_name-same}
-use Rattle.urb_names.specs.Names.{has_name, same_name}
-use Rattle.urb_stable.proofs.JoinedRecords.{pend-append}
-use Rattle.urb_stable.specs.Entries.{Entry}
-use Rattle.urb_stable.specs.DeliveredLogs.{entries, entries_of, log}
-use Rattle.urb_stable.specs.Records.{pend}
+use Rattle.urb_world.specs.World.{stored}
+use Rattle.urb_stable.specs.DeliveredLogs.{entries_of}
 
 -- ---- beginnings
 

@@ -1,20 +1,14 @@
 -- Answers end: which packets an arrival hands out at once, and which of them are answered in turn.
-use Rattle.std.proofs.Common.{List, None, [], refl, true, ℕ, ◌&&◌, ◌==◌, ◌≡◌, eqb-true, subst}
-use Rattle.std.proofs.lemmas.Bool.{cond_both, and_parts}
-use Rattle.std.specs.List.{AllByRecursion}
+use Rattle.urb_world.proofs.Common.{AllByRecursion, Carried, List, Node, None, Refused, Reply}
+use Rattle.urb_world.proofs.Common.{World, [], all_weaker, and_parts, answers-certify, answers-hear}
+use Rattle.urb_world.proofs.Common.{answers_of, arrives, at_node, cond_both, eqb-true, heard-silent}
+use Rattle.urb_world.proofs.Common.{is_for, is_node, packet_arrives, packets_in, refl}
+use Rattle.urb_world.proofs.Common.{says_certified, says_heard, step, subst, true, world_after, ℕ}
+use Rattle.urb_world.proofs.Common.{◌&&◌, ◌==◌, ◌≡◌}
 use Rattle.urb_world.specs.PromptAnswers.{answers_to}
-use Rattle.urb_world.specs.Step.{at_node, is_for, packet_arrives, step, world_after}
-use Rattle.urb_world.specs.World.{World}
-use Rattle.urb_names.proofs.SentPairs.{all_weaker}
-use Rattle.urb_names.specs.CarriedPackets.{Carried, says_certified}
-use Rattle.urb_names.specs.Nodes.{is_node}
-use Rattle.urb_names.specs.declared.refusal.Refusal.TheVariants as refusal
-use Rattle.urb_node.specs.Part.{Node}
-use Rattle.urb_node.specs.Replies.{Refused, Reply, packets_in}
-use Rattle.urb_node.specs.Steps.{arrives, says_heard, answers_of}
 use Rattle.urb_world.proofs.steps.StepCases.{packet-cases}
-use Rattle.urb_node.proofs.FinalAnswers.{SayCertified, SayHeard, answers-certify, answers-hear}
-use Rattle.urb_node.proofs.FinalAnswers.{first_version-silent, heard-silent}
+use Rattle.urb_node.proofs.FinalAnswers.{SayCertified, SayHeard, first_version-silent}
+use Rattle.urb_names.specs.declared.refusal.Refusal.TheVariants as refusal
 
 -- An arrival hands out no packets, or the answers of the node that the packet is for.
 arrival-answers : (P : List Carried → Type 0) (w : World) (p : ℕ) (packet : Carried) → P []

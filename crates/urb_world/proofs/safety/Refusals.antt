@@ -1,14 +1,9 @@
 -- A refused event leaves the world as it is.
-use Rattle.std.proofs.Common.{Bool, List, ap, append-nil, ap₂, cond, eqb-true, false, refl, sym}
-use Rattle.std.proofs.Common.{true, ℕ, ◌++◌, ◌==◌, ◌∙◌, ◌≡◌}
-use Rattle.std.proofs.Math.Path.{fun_ext}
+use Rattle.urb_world.proofs.Common.{Bool, Carried, Event, List, Node, Refusal, Refused, Reply}
+use Rattle.urb_world.proofs.Common.{World, ap, append-nil, ap₂, cond, eqb-true, false, fun_ext}
+use Rattle.urb_world.proofs.Common.{packets_in, refl, step, sym, true, updated, ℕ, ◌++◌, ◌==◌, ◌∙◌}
+use Rattle.urb_world.proofs.Common.{◌≡◌}
 use Rattle.urb_world.proofs.steps.ArrivalCases.{arrive-cases}
-use Rattle.urb_world.specs.Step.{Event, step}
-use Rattle.urb_world.specs.World.{World, updated}
-use Rattle.urb_names.specs.CarriedPackets.{Carried}
-use Rattle.urb_names.specs.declared.refusal.Refusal.{Refusal}
-use Rattle.urb_node.specs.Part.{Node}
-use Rattle.urb_node.specs.Replies.{Refused, Reply, packets_in}
 use Rattle.urb_world.proofs.steps.StepCases.{OutcomeCases, node_of, outcome-cases, outcome_of}
 use Rattle.urb_world.proofs.steps.StepCases.{step-cases}
 use Rattle.urb_world.specs.EventEffects.{event_node}

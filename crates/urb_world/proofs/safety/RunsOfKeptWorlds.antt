@@ -1,17 +1,13 @@
 -- A run from any world that keeps the rules: its packets are truthful, and what two nodes deliver
 -- agrees.
-use Rattle.std.proofs.Common.{List, subst, true, ◌≡◌}
+use Rattle.urb_world.proofs.Common.{AgreeInTime, AllTruthful, EntriesGrow, Event, IsKept, List}
+use Rattle.urb_world.proofs.Common.{Reply, Run, ToldTruth, World, all_weaker, subst, true, truthful}
+use Rattle.urb_world.proofs.Common.{◌≡◌}
 use Rattle.urb_world.proofs.safety.AgreeingLogs.{agree-later, entries-all_grow}
 use Rattle.urb_world.proofs.steps.Growth.{run-goes_on}
 use Rattle.urb_world.proofs.steps.Runs.{run-kept, run-tells, run-truthful}
 use Rattle.urb_world.proofs.safety.SafeWorlds.{safe}
-use Rattle.urb_world.specs.RunMoments.{AgreeInTime, EntriesGrow}
-use Rattle.urb_world.specs.RunInvariant.{IsKept}
-use Rattle.urb_world.specs.Step.{Event, Run}
-use Rattle.urb_world.specs.TruthfulPackets.{AllTruthful, AreTruthful, ToldTruth}
-use Rattle.urb_world.specs.World.{World, truthful}
-use Rattle.urb_names.proofs.SentPairs.{all_weaker}
-use Rattle.urb_node.specs.Replies.{Reply}
+use Rattle.urb_world.specs.TruthfulPackets.{AreTruthful}
 
 module _ (old new : World) (events : List Event) (replies : List Reply) (kept : IsKept old)
     (ran : Run old events replies new) where

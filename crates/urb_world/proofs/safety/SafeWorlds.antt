@@ -1,24 +1,18 @@
 -- A world that keeps the rules is safe, and has one message per name.
-use Rattle.std.proofs.Common.{List, Option, Some, ap, ap₂, arith, drop, length, map, refl, reverse}
-use Rattle.std.proofs.Common.{slice_get, suc, sym, take, true, zero, ℕ, ◌+◌, ◌<◌, ◌∙◌, ◌∷◌, ◌≡◌}
-use Rattle.std.proofs.Common.{◌≤◌}
+use Rattle.urb_world.proofs.Common.{Content, IsInOrder, Label, List, NodesKept, OneMessage, Option}
+use Rattle.urb_world.proofs.Common.{Safe, Some, World, ap, ap₂, arith, cert, drop, has_name}
+use Rattle.urb_world.proofs.Common.{has_name-part, has_pair, has_pair-found, kept-held}
+use Rattle.urb_world.proofs.Common.{kept-numbered, kept-unique, length, length-row, log, map}
+use Rattle.urb_world.proofs.Common.{message_of, name, no_name_twice, part-released, part_of, pend}
+use Rattle.urb_world.proofs.Common.{reach, refl, reverse, row, slice_get, suc, sym, take, true}
+use Rattle.urb_world.proofs.Common.{zero, ℕ, ◌+◌, ◌<◌, ◌∙◌, ◌∷◌, ◌≡◌, ◌≤◌}
 use Rattle.urb_world.proofs.steps.DraftedRecords.{AllKept, agree, to_sender}
 use Rattle.urb_world.proofs.steps.Runs.{all_kept}
-use Rattle.urb_world.specs.RunInvariant.{NodesKept}
-use Rattle.urb_world.specs.SafetyProperties.{IsInOrder, OneMessage, Safe}
-use Rattle.urb_world.specs.World.{World, stored}
-use Rattle.urb_names.proofs.FoundPairs.{has_pair-found}
+use Rattle.urb_world.specs.World.{stored}
 use Rattle.urb_names.proofs.Places.{drop_get}
-use Rattle.urb_names.proofs.LogRows.{has-row, has_name-part, length-row, no_name_twice}
-use Rattle.urb_names.proofs.LogRows.{part-released, reach, row}
-use Rattle.urb_names.specs.Names.{has_name, name}
-use Rattle.urb_names.specs.LabelsAndContents.{Content, Label}
-use Rattle.urb_names.specs.Pairs.{has_pair, message_of}
-use Rattle.urb_names.specs.Release.{part_of}
-use Rattle.urb_stable.proofs.KeptRules.{IsHeld, kept-held, kept-numbered, kept-unique}
+use Rattle.urb_names.proofs.LogRows.{has-row}
+use Rattle.urb_stable.proofs.KeptRules.{IsHeld}
 use Rattle.urb_stable.proofs.LogGrowth.{logged_certified}
-use Rattle.urb_stable.specs.DeliveredLogs.{log}
-use Rattle.urb_stable.specs.Records.{cert, pend}
 
 row_messages : (f : Label → Option Content) (s a k : ℕ) (messages : List Content)
     → ((i : ℕ) → a ≤ i → i < a + k

@@ -1,21 +1,17 @@
 -- Which events store a record, and how much of a log a stored record releases.
-use Rattle.std.proofs.Common.{[], ap, arith, length, length-append, refl, subst, sym, ℕ, ◌&&◌, ◌++◌}
-use Rattle.std.proofs.Common.{◌+◌, ◌==◌, ◌∷◌, ◌≡◌}
-use Rattle.std.proofs.lemmas.Bool.{cond_both}
+use Rattle.urb_world.proofs.Common.{Commit, Done, Down, Entry, Event, Node, Ready, Refused, Reply}
+use Rattle.urb_world.proofs.Common.{State, Stored, Storing, World, [], ap, arith, commits}
+use Rattle.urb_world.proofs.Common.{cond_both, done, is_node, keeps_record, length, log}
+use Rattle.urb_world.proofs.Common.{next_position, refl, same_record, step, subst, sym, world_after}
+use Rattle.urb_world.proofs.Common.{ℕ, ◌&&◌, ◌++◌, ◌+◌, ◌==◌, ◌∷◌, ◌≡◌}
+use Rattle.std.proofs.Common.{length-append}
 use Rattle.urb_world.proofs.steps.ArrivalCases.{arrive-cases}
 use Rattle.urb_world.proofs.steps.Growth.{log-begins}
 use Rattle.urb_world.proofs.steps.OneNodeStep.{updated-at}
 use Rattle.urb_world.specs.EventEffects.{StoresNothing, event_node}
-use Rattle.urb_world.specs.Step.{Commit, Event, step, world_after}
-use Rattle.urb_world.specs.World.{World, stored}
-use Rattle.urb_names.specs.Nodes.{is_node}
-use Rattle.urb_names.specs.declared.refusal.Refusal.TheVariants as refusal
-use Rattle.urb_node.specs.Part.{Down, Node, Ready, State, Storing}
-use Rattle.urb_node.specs.Replies.{Done, Refused, Reply, Stored}
-use Rattle.urb_node.specs.Steps.{commits, done, keeps_record, next_position, same_record}
-use Rattle.urb_stable.specs.Entries.{Entry}
-use Rattle.urb_stable.specs.DeliveredLogs.{log}
+use Rattle.urb_world.specs.World.{stored}
 use Rattle.urb_world.proofs.steps.StepCases.{OutcomeCases, node_of, outcome-cases, step-nodes}
+use Rattle.urb_names.specs.declared.refusal.Refusal.TheVariants as refusal
 
 -- ---- events that store nothing
 

@@ -1,22 +1,10 @@
 -- The cases of an arrival at a ready node, whatever was counted and heard before.
-use Rattle.std.proofs.Common.{List, None, Option, Some, is_none, not, ℕ, ◌==◌}
-use Rattle.std.proofs.Common.{◌||◌}
-use Rattle.std.proofs.lemmas.Bool.{cond_both}
-use Rattle.urb_names.specs.Acknowledgements.{acked, with_ack}
-use Rattle.urb_names.specs.CarriedPackets.{Carried, says_certified}
-use Rattle.urb_names.specs.Names.{has_name}
-use Rattle.urb_names.specs.LabelsAndContents.{Content, Label, Limits}
-use Rattle.urb_names.specs.Nodes.{majority_passes}
-use Rattle.urb_names.specs.Pairs.{message_of}
-use Rattle.urb_names.specs.declared.flags.Flags.{Flags}
-use Rattle.urb_node.specs.Part.{Node, packet_from}
-use Rattle.urb_node.specs.Replies.{Reply, Same}
-use Rattle.urb_node.specs.Steps.{answers, arrives, counts, drafts, hears}
+use Rattle.urb_world.proofs.Common.{Again, Answered, Carried, Cause, Cert, Content, Flags, Label}
+use Rattle.urb_world.proofs.Common.{Limits, List, Node, None, Noted, Option, Pend, PendCert, Reply}
+use Rattle.urb_world.proofs.Common.{Same, Some, acked, answers, arrives, cert, cond_both, counts}
+use Rattle.urb_world.proofs.Common.{drafts, has_name, hears, is_none, majority_passes, message_of}
+use Rattle.urb_world.proofs.Common.{not, packet_from, pend, says_certified, with_ack, ℕ, ◌==◌, ◌||◌}
 use Rattle.urb_node.specs.declared.answer.Answer.{Answer}
-use Rattle.urb_node.specs.declared.answer.Answer.TheVariants.{Again, Answered, Noted}
-use Rattle.urb_node.specs.declared.cause.Cause.{Cause}
-use Rattle.urb_stable.specs.Records.{cert, pend}
-use Rattle.urb_stable.specs.declared.record.Record.TheVariants.{Cert, Pend, PendCert}
 
 -- what holds for all certificates that may have been heard, holds once one was heard
 pub any-heard : (P : Node → Type 0) (q : ℕ) (x : Label) (flags : Option Flags) (node : Node)

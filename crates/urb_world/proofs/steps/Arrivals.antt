@@ -1,34 +1,21 @@
 -- An arrival preserves what holds for all nodes.
-use Rattle.std.proofs.Common.{Bool, List, None, Option, Some, [], ap, cond, eqb-true, false, inl}
-use Rattle.std.proofs.Common.{inr, is_none, is_some, not, refl, subst, sym, true, ℕ, ⊎_elim, ◌&&◌}
-use Rattle.std.proofs.Common.{◌++◌, ◌==◌, ◌||◌, ◌∙◌, ◌∷◌, ◌≡◌, ◌⊎◌}
-use Rattle.std.proofs.lemmas.Bool.{and_from, and_parts, cond_both, not-false, not-true, or_cases}
+use Rattle.urb_world.proofs.Common.{AcksKept, Again, Answered, Bool, Cause, Cert, Content, Entry}
+use Rattle.urb_world.proofs.Common.{Flags, Grows, Label, Limits, List, MayJoin, Node, NodeKept}
+use Rattle.urb_world.proofs.Common.{None, Noted, Option, Pend, PendCert, Same, Some, [], acked}
+use Rattle.urb_world.proofs.Common.{and_from, and_parts, answers, ap, arrives, cert, cond}
+use Rattle.urb_world.proofs.Common.{cond_both, counts, eqb-true, false, has_name, has_pair}
+use Rattle.urb_world.proofs.Common.{has_pair-found, has_pair-itself, has_pair-left, in_range, inl}
+use Rattle.urb_world.proofs.Common.{inr, is_none, is_some, kept-range, majority_grows}
+use Rattle.urb_world.proofs.Common.{majority_passes, message_of, no_pair, none_found, not}
+use Rattle.urb_world.proofs.Common.{not-false, or_cases, packet_from, pend, pend-append, refl}
+use Rattle.urb_world.proofs.Common.{reply_to, same_name, same_name-true, says_certified, some_found}
+use Rattle.urb_world.proofs.Common.{subst, sym, true, updated, with_ack, ℕ, ⊎_elim, ◌&&◌, ◌++◌}
+use Rattle.urb_world.proofs.Common.{◌==◌, ◌||◌, ◌∙◌, ◌∷◌, ◌≡◌, ◌⊎◌}
+use Rattle.std.proofs.lemmas.Bool.{not-true}
 use Rattle.urb_world.proofs.steps.ArrivalCases.{any-heard, told_node}
 use Rattle.urb_world.proofs.steps.DraftedRecords.{AllKept, agree, leads-drafts, to_sender}
 use Rattle.urb_world.proofs.steps.OneNodeStep.{Leads, leads-same, updated-at}
-use Rattle.urb_world.specs.RunInvariant.{AcksKept, MayJoin, NodeKept}
-use Rattle.urb_world.specs.World.{updated}
-use Rattle.urb_names.proofs.FoundPairs.{has_pair-found, has_pair-itself, has_pair-left, no_pair}
-use Rattle.urb_names.proofs.FoundPairs.{none_found, some_found}
-use Rattle.urb_names.proofs.SameNames.{majority_grows, same_name-true}
-use Rattle.urb_names.specs.Acknowledgements.{acked, with_ack}
-use Rattle.urb_names.specs.CarriedPackets.{says_certified}
-use Rattle.urb_names.specs.Names.{has_name, same_name}
-use Rattle.urb_names.specs.LabelsAndContents.{Content, Label, Limits}
-use Rattle.urb_names.specs.Nodes.{majority_passes}
-use Rattle.urb_names.specs.Pairs.{has_pair, message_of}
-use Rattle.urb_names.specs.declared.flags.Flags.{Flags}
-use Rattle.urb_node.specs.Part.{Node, packet_from}
-use Rattle.urb_node.specs.Replies.{Same}
-use Rattle.urb_node.specs.declared.answer.Answer.TheVariants.{Again, Answered, Noted}
-use Rattle.urb_node.specs.declared.cause.Cause.{Cause}
-use Rattle.urb_node.specs.Steps.{answers, arrives, counts, reply_to}
-use Rattle.urb_stable.proofs.JoinedRecords.{pend-append}
-use Rattle.urb_stable.proofs.KeptRules.{Grows, kept-range}
-use Rattle.urb_stable.specs.Entries.{Entry}
-use Rattle.urb_stable.specs.Fitting.{in_range, known_held}
-use Rattle.urb_stable.specs.Records.{cert, pend}
-use Rattle.urb_stable.specs.declared.record.Record.TheVariants.{Cert, Pend, PendCert}
+use Rattle.urb_stable.specs.Fitting.{known_held}
 
 module _ (size : Limits) (images : ℕ → List Entry) (all : AllKept size images) (p q : ℕ)
     (records : List Entry) (here : images p ≡ records)

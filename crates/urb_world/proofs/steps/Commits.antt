@@ -1,18 +1,12 @@
 -- A store that succeeded or failed, a crash and a restart all preserve what holds for all nodes.
-use Rattle.std.proofs.Common.{List, Option, [], ℕ, ◌++◌, ◌∷◌, ◌≡◌}
-use Rattle.std.proofs.lemmas.Bool.{false≢true}
+use Rattle.urb_world.proofs.Common.{Cause, DoubtKept, Down, Entry, IsCaused, Limits, List, MayJoin}
+use Rattle.urb_world.proofs.Common.{Node, NodeKept, Option, Ready, State, StateKept, Stored}
+use Rattle.urb_world.proofs.Common.{Storing, [], broadcast_after, comes_up, done, doubt, false≢true}
+use Rattle.urb_world.proofs.Common.{goes_down, keeps_record, updated, ℕ, ◌++◌, ◌∷◌, ◌≡◌}
 use Rattle.urb_world.proofs.steps.JoinedRecord.{joined-acks, joined-broadcast, joined-certified}
 use Rattle.urb_world.proofs.steps.JoinedRecord.{joined-grows, joined-kept, joined-sent}
 use Rattle.urb_world.proofs.steps.JoinedRecord.{own_acks-kept}
 use Rattle.urb_world.proofs.steps.OneNodeStep.{Leads, leads-same, updated-at}
-use Rattle.urb_world.specs.RunInvariant.{DoubtKept, IsCaused, MayJoin, NodeKept, StateKept}
-use Rattle.urb_world.specs.World.{updated}
-use Rattle.urb_names.specs.LabelsAndContents.{Limits}
-use Rattle.urb_node.specs.Part.{Down, Node, Ready, State, Storing}
-use Rattle.urb_node.specs.Replies.{Stored}
-use Rattle.urb_node.specs.Steps.{broadcast_after, comes_up, done, doubt, goes_down, keeps_record}
-use Rattle.urb_stable.specs.Entries.{Entry}
-use Rattle.urb_node.specs.declared.cause.Cause.{Cause}
 
 -- storing the held record preserves the rules, if the record meets them and the node that caused it
 -- holds its pair

@@ -1,12 +1,7 @@
 -- When records confirm a packet, and what they have then.
-use Rattle.std.proofs.Common.{Bool, List, false, not, refl, true, ◌||◌, ◌≡◌}
-use Rattle.std.proofs.lemmas.Bool.{and_from, and_parts, false≢true}
-use Rattle.urb_world.specs.World.{bears_out}
-use Rattle.urb_names.specs.CarriedPackets.{Carried, says_certified}
-use Rattle.urb_names.specs.Names.{has_name}
-use Rattle.urb_names.specs.Pairs.{has_pair}
-use Rattle.urb_stable.specs.Entries.{Entry}
-use Rattle.urb_stable.specs.Records.{cert, pend}
+use Rattle.urb_world.proofs.Common.{Bool, Carried, Entry, List, and_from, and_parts, bears_out}
+use Rattle.urb_world.proofs.Common.{cert, false, false≢true, has_name, has_pair, not, pend, refl}
+use Rattle.urb_world.proofs.Common.{says_certified, true, ◌||◌, ◌≡◌}
 
 -- if the first holds, the second does
 to_implied : (a b : Bool) → (a ≡ true → b ≡ true) → (not a || b) ≡ true

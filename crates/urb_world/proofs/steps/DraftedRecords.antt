@@ -1,20 +1,11 @@
 -- Two nodes hold one message under a name. A node that refuses or drafts preserves what holds for
 -- all nodes.
-use Rattle.std.proofs.Common.{Bool, List, Option, Some, [], eqb-true, false, refl, subst, sym, true}
-use Rattle.std.proofs.Common.{ℕ, ◌==◌, ◌∙◌, ◌≡◌}
+use Rattle.urb_world.proofs.Common.{Bool, Cause, Content, Entry, IsCaused, Kept, Label, Limits}
+use Rattle.urb_world.proofs.Common.{List, MayJoin, Node, NodeKept, Option, Refusal, Some, []}
+use Rattle.urb_world.proofs.Common.{drafts, eqb-true, false, has_pair, kept-known, kept-unique}
+use Rattle.urb_world.proofs.Common.{pend, refl, refuses, subst, sym, true, ℕ, ◌==◌, ◌∙◌, ◌≡◌}
 use Rattle.urb_world.proofs.steps.OneNodeStep.{Leads, leads-same}
-use Rattle.urb_world.specs.RunInvariant.{IsCaused, MayJoin, NodeKept}
 use Rattle.urb_names.proofs.FoundPairs.{Unique}
-use Rattle.urb_names.specs.LabelsAndContents.{Content, Label, Limits}
-use Rattle.urb_names.specs.Pairs.{has_pair}
-use Rattle.urb_names.specs.declared.refusal.Refusal.{Refusal}
-use Rattle.urb_node.specs.Part.{Node}
-use Rattle.urb_node.specs.Steps.{drafts, refuses}
-use Rattle.urb_stable.proofs.KeptRules.{kept-known, kept-unique}
-use Rattle.urb_stable.specs.Entries.{Entry}
-use Rattle.urb_stable.specs.Fitting.{Kept}
-use Rattle.urb_stable.specs.Records.{pend}
-use Rattle.urb_node.specs.declared.cause.Cause.{Cause}
 
 abbrev pub AllKept : Limits → (ℕ → List Entry) → Type 0
 AllKept size images = (q : ℕ) → Kept size images q [] (images q)

@@ -1,18 +1,11 @@
 -- What one step does to the drafts that the nodes of a world hold.
-use Rattle.std.proofs.Common.{ap, Bool, false, refl, true, ℕ, ◌==◌, ◌≡◌, ◌⊎◌, inl, inr, eqb-true}
-use Rattle.std.proofs.Common.{subst, sym}
-use Rattle.std.proofs.lemmas.Bool.{cond-false}
+use Rattle.urb_world.proofs.Common.{Bool, Drafted, Event, Node, Refusal, Refused, Reply, Same, Sent}
+use Rattle.urb_world.proofs.Common.{World, ap, cond-false, eqb-true, false, inl, inr, is_node}
+use Rattle.urb_world.proofs.Common.{is_storing, refl, step, subst, sym, true, ℕ, ◌==◌, ◌≡◌, ◌⊎◌}
 use Rattle.urb_world.proofs.steps.ArrivalCases.{arrive-cases}
-pub use Rattle.urb_world.specs.EventEffects.{event_node}
-use Rattle.urb_world.specs.Step.{Event, step}
-use Rattle.urb_world.specs.World.{World}
-use Rattle.urb_names.specs.Nodes.{is_node}
-use Rattle.urb_names.specs.declared.refusal.Refusal.{Refusal}
-use Rattle.urb_node.specs.Part.{Node}
-use Rattle.urb_node.specs.Replies.{Drafted, Refused, Reply, Same, Sent}
-use Rattle.urb_node.specs.Steps.{is_storing}
 use Rattle.urb_world.proofs.steps.StepCases.{OutcomeCases, node_of, outcome-cases, outcome_of}
 use Rattle.urb_world.proofs.steps.StepCases.{step-cases, step-here}
+pub use Rattle.urb_world.specs.EventEffects.{event_node}
 
 -- ---- the other nodes, and the limits
 

@@ -1,28 +1,15 @@
 -- What is stored, broadcast and delivered only grows at its end.
-use Rattle.std.proofs.Common.{List, [], ap, append-nil, append_assoc, filter, not, refl, reverse}
-use Rattle.std.proofs.Common.{subst, sym, true, ℕ, ◌++◌, ◌==◌, ◌∙◌, ◌∷◌, ◌≡◌}
-use Rattle.std.proofs.lemmas.Bool.{cond_both}
+use Rattle.urb_world.proofs.Common.{Begins, Cert, Content, Entry, Event, GoesOn, Label, List, Node}
+use Rattle.urb_world.proofs.Common.{Pend, PendCert, Reply, Run, World, [], any_left, ap, append-nil}
+use Rattle.urb_world.proofs.Common.{append_assoc, broadcast_after, cert, cert-append, cond_both}
+use Rattle.urb_world.proofs.Common.{filter, has_name, has_pair, has_pair-left, log, not, pend}
+use Rattle.urb_world.proofs.Common.{pend-append, refl, reverse, run, step, subst, sym, true, ℕ}
+use Rattle.urb_world.proofs.Common.{◌++◌, ◌==◌, ◌∙◌, ◌∷◌, ◌≡◌}
 use Rattle.std.proofs.lemmas.List.{reverse-append}
 use Rattle.urb_world.proofs.steps.ArrivalCases.{arrive-cases}
 use Rattle.urb_world.proofs.steps.ConfirmedPackets.{borne-certificate, borne-pair, to_borne}
-use Rattle.urb_world.specs.RunMoments.{GoesOn}
-use Rattle.urb_world.specs.Step.{Event, Run, run, step}
-use Rattle.urb_world.specs.World.{World, stored}
-use Rattle.urb_names.proofs.FoundPairs.{has_pair-left}
-use Rattle.urb_names.proofs.SameNames.{any_left}
-use Rattle.urb_names.specs.ListPrefixes.{Begins}
-use Rattle.urb_names.specs.Names.{has_name}
-use Rattle.urb_names.specs.LabelsAndContents.{Content, Label}
-use Rattle.urb_names.specs.Pairs.{has_pair}
+use Rattle.urb_world.specs.World.{stored}
 use Rattle.urb_names.specs.Release.{beginning, released}
-use Rattle.urb_node.specs.Part.{Node}
-use Rattle.urb_node.specs.Replies.{Reply}
-use Rattle.urb_node.specs.Steps.{broadcast_after}
-use Rattle.urb_stable.proofs.JoinedRecords.{cert-append, pend-append}
-use Rattle.urb_stable.specs.Entries.{Entry}
-use Rattle.urb_stable.specs.DeliveredLogs.{log}
-use Rattle.urb_stable.specs.Records.{cert, pend}
-use Rattle.urb_stable.specs.declared.record.Record.TheVariants.{Cert, Pend, PendCert}
 use Rattle.urb_world.proofs.steps.StepCases.{OutcomeCases, node_of, outcome-cases, step-nodes}
 use Rattle.urb_world.specs.EventEffects.{event_node}
 

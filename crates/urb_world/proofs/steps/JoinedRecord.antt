@@ -1,29 +1,22 @@
 -- Adding a record to the stored ones preserves what holds for all nodes.
-use Rattle.std.proofs.Common.{Bool, List, None, Option, Some, [], ap, append-nil, cond, eqb-true}
-use Rattle.std.proofs.Common.{false, is_none, map, refl, subst, sym, true, ℕ, ⊎_elim, ◌&&◌, ◌++◌}
-use Rattle.std.proofs.Common.{◌==◌, ◌||◌, ◌∙◌, ◌∷◌, ◌≡◌}
-use Rattle.std.proofs.lemmas.Bool.{and_parts, false_from_ne_true, false≢true, or_cases, or_left}
+use Rattle.urb_world.proofs.Common.{AcksKept, AreFrom, Bool, Cause, Cert, Content, Entry, Grows}
+use Rattle.urb_world.proofs.Common.{IsCaused, Kept, Label, Limits, List, MayJoin, Node, NodeKept}
+use Rattle.urb_world.proofs.Common.{None, Option, Pend, PendCert, Rules, Some, [], acked}
+use Rattle.urb_world.proofs.Common.{acks_after, and_parts, any_left, any_right, ap, append-nil}
+use Rattle.urb_world.proofs.Common.{broadcast_after, cert, cert-append, cond, eqb-true, false}
+use Rattle.urb_world.proofs.Common.{false_from_ne_true, false≢true, has_name, has_pair}
+use Rattle.urb_world.proofs.Common.{has_pair-found, has_pair-left, heard_of, in_range, is_none}
+use Rattle.urb_world.proofs.Common.{kept-push, map, message_of, message_of-more, message_of-new}
+use Rattle.urb_world.proofs.Common.{none_found, or_cases, or_left, own, own-other, own-push, pend}
+use Rattle.urb_world.proofs.Common.{pend-append, refl, same_name, same_name-same, same_name-true}
+use Rattle.urb_world.proofs.Common.{subst, sym, true, updated, with_ack, with_cause, ℕ, ⊎_elim}
+use Rattle.urb_world.proofs.Common.{◌&&◌, ◌++◌, ◌==◌, ◌||◌, ◌∙◌, ◌∷◌, ◌≡◌}
 use Rattle.urb_world.proofs.steps.OneNodeStep.{updated-at}
-use Rattle.urb_world.specs.RunInvariant.{AcksKept, IsCaused, MayJoin, NodeKept}
-use Rattle.urb_world.specs.World.{updated}
-use Rattle.urb_names.proofs.FoundPairs.{has_pair-found, has_pair-left, message_of-more}
-use Rattle.urb_names.proofs.FoundPairs.{message_of-new, none_found, own-other, own-push}
 use Rattle.urb_names.proofs.SentPairs.{to_others-from}
-use Rattle.urb_names.proofs.SameNames.{any_left, any_right, same_name-same, same_name-true}
-use Rattle.urb_names.specs.Acknowledgements.{acked, with_ack}
-use Rattle.urb_names.specs.CarriedPackets.{AreFrom, to_others}
-use Rattle.urb_names.specs.Names.{has_name, same_name}
-use Rattle.urb_names.specs.LabelsAndContents.{Content, Label, Limits}
-use Rattle.urb_names.specs.Pairs.{has_pair, message_of, own}
-use Rattle.urb_node.specs.Part.{Node, own_acks}
-use Rattle.urb_node.specs.Steps.{acks_after, broadcast_after, heard_of, packets_of, with_cause}
-use Rattle.urb_stable.proofs.JoinedRecords.{cert-append, pend-append}
-use Rattle.urb_stable.proofs.KeptRules.{Grows, kept-grow, kept-push}
-use Rattle.urb_stable.specs.Entries.{Entry}
-use Rattle.urb_stable.specs.Fitting.{Kept, Rules, in_range}
-use Rattle.urb_stable.specs.Records.{cert, pend}
-use Rattle.urb_stable.specs.declared.record.Record.TheVariants.{Cert, Pend, PendCert}
-use Rattle.urb_node.specs.declared.cause.Cause.{Cause}
+use Rattle.urb_names.specs.CarriedPackets.{to_others}
+use Rattle.urb_node.specs.Part.{own_acks}
+use Rattle.urb_node.specs.Steps.{packets_of}
+use Rattle.urb_stable.proofs.KeptRules.{kept-grow}
 
 -- one more acknowledgement of a pair that is pending here
 acks-with : (images : ℕ → List Entry) (records : List Entry) (acks : List (Label × ℕ)) (x : Label)

@@ -1,25 +1,15 @@
 -- How one node's step preserves what holds for all nodes.
-use Rattle.std.proofs.Common.{Bool, List, None, Option, Some, [], ap, cond, eq-eqb, eqb-true, false}
-use Rattle.std.proofs.Common.{refl, subst, sym, true, ℕ, ◌++◌, ◌==◌, ◌∙◌, ◌∷◌, ◌≡◌}
-use Rattle.std.proofs.lemmas.Bool.{cond-true}
-use Rattle.std.specs.List.{AllByRecursion}
+use Rattle.urb_world.proofs.Common.{AcksKept, AllByRecursion, AreFrom, Bool, Carried, Cause, Cert}
+use Rattle.urb_world.proofs.Common.{Content, DoubtKept, Down, Entry, Grows, IsCaused, IsFrom, Label}
+use Rattle.urb_world.proofs.Common.{Limits, List, MayJoin, Node, NodeKept, NodesKept, None, Option}
+use Rattle.urb_world.proofs.Common.{Pend, PendCert, Ready, Reply, Some, State, StateKept, Storing}
+use Rattle.urb_world.proofs.Common.{World, [], all_weaker, ap, cert, cond, cond-true, eq-eqb}
+use Rattle.urb_world.proofs.Common.{eqb-true, false, has_name, has_pair, packets_in, pend, refl}
+use Rattle.urb_world.proofs.Common.{rules-grow, subst, sym, true, truthful, updated, world_after, ℕ}
+use Rattle.urb_world.proofs.Common.{◌++◌, ◌==◌, ◌∙◌, ◌∷◌, ◌≡◌}
 use Rattle.urb_world.proofs.steps.ConfirmedPackets.{to_borne}
-use Rattle.urb_world.specs.RunInvariant.{AcksKept, DoubtKept, IsCaused, MayJoin, NodeKept, NodesKept}
-use Rattle.urb_world.specs.RunInvariant.{StateKept}
-use Rattle.urb_world.specs.Step.{world_after}
-use Rattle.urb_world.specs.World.{World, stored, truthful, updated}
-use Rattle.urb_names.proofs.SentPairs.{all_weaker}
-use Rattle.urb_names.specs.CarriedPackets.{AreFrom, Carried, IsFrom}
-use Rattle.urb_names.specs.Names.{has_name}
-use Rattle.urb_names.specs.LabelsAndContents.{Content, Label, Limits}
-use Rattle.urb_names.specs.Pairs.{has_pair}
-use Rattle.urb_node.specs.Part.{Down, Node, Ready, State, Storing}
-use Rattle.urb_node.specs.Replies.{Reply, packets_in}
-use Rattle.urb_stable.proofs.KeptRules.{Grows, kept-grow, rules-grow}
-use Rattle.urb_stable.specs.Entries.{Entry}
-use Rattle.urb_stable.specs.Records.{cert, pend}
-use Rattle.urb_stable.specs.declared.record.Record.TheVariants.{Cert, Pend, PendCert}
-use Rattle.urb_node.specs.declared.cause.Cause.{Cause}
+use Rattle.urb_world.specs.World.{stored}
+use Rattle.urb_stable.proofs.KeptRules.{kept-grow}
 
 -- the nodes after a step, and the packets that it hands out
 pub record StepKept (outcome : Reply × World) : Type 0 where

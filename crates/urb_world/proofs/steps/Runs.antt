@@ -1,32 +1,26 @@
 -- Every world of a run meets the rules. Images that fit together meet them, and images that meet
 -- them fit together.
-use Rattle.std.proofs.Common.{Bool, List, [], append-nil, ap₂, arith, cond, false, flat_map, length}
-use Rattle.std.proofs.Common.{map, not, refl, slice_index_or, subst, suc, sym, true, zero, ℕ}
-use Rattle.std.proofs.Common.{⊎_elim, ◌++◌, ◌+◌, ◌<◌, ◌∷◌, ◌≡◌, ◌≤◌}
-use Rattle.std.proofs.lemmas.Bool.{cases_eq, cases_lt, false≢true}
-use Rattle.std.specs.List.{AllByRecursion}
+use Rattle.urb_world.proofs.Common.{Accepted, AllByRecursion, AllTruthful, AreImages, Bool, Carried}
+use Rattle.urb_world.proofs.Common.{Entry, Event, Fits, IsKept, IsReached, IsStart, Kept, Limits}
+use Rattle.urb_world.proofs.Common.{List, Node, NodesKept, Of_images, Of_new, Reply, Rules, Same}
+use Rattle.urb_world.proofs.Common.{State, StateKept, ToldTruth, World, [], all_append, all_weaker}
+use Rattle.urb_world.proofs.Common.{append-nil, ap₂, arith, cases_eq, cases_lt, cond, false}
+use Rattle.urb_world.proofs.Common.{false≢true, flat_map, image_of, is_node, keeps_a, keeps_c}
+use Rattle.urb_world.proofs.Common.{keeps_d, length, map, misfits_behind, name_of, nodes, not}
+use Rattle.urb_world.proofs.Common.{numbers_from, opened, packets_in, refl, run, slice_index_or}
+use Rattle.urb_world.proofs.Common.{started, step, subst, suc, sym, true, truthful, zero, ℕ, ⊎_elim}
+use Rattle.urb_world.proofs.Common.{◌++◌, ◌+◌, ◌<◌, ◌∷◌, ◌≡◌, ◌≤◌}
 use Rattle.urb_world.proofs.steps.DraftedRecords.{AllKept, leads-refuses}
 use Rattle.urb_world.proofs.steps.Arrivals.{leads-arrives}
 use Rattle.urb_world.proofs.steps.JoinedRecord.{own_acks-kept}
 use Rattle.urb_world.proofs.steps.ShortPayloads.{images-short, opened-short, run-short}
 use Rattle.urb_world.proofs.steps.Growth.{run-goes_on, step-goes_on}
-use Rattle.urb_world.proofs.steps.OneNodeStep.{Leads, StepKept, nodes-step, leads-same}
+use Rattle.urb_world.proofs.steps.OneNodeStep.{Leads, StepKept, leads-same, nodes-step}
 use Rattle.urb_world.proofs.steps.ConfirmedPackets.{borne-pair}
-use Rattle.urb_world.specs.RunInvariant.{IsKept, NodesKept, StateKept}
-use Rattle.urb_world.specs.TruthfulPackets.{AllTruthful, ToldTruth}
-use Rattle.urb_world.specs.Step.{Event, IsReached, IsStart, Of_images, Of_new, run, step}
-use Rattle.urb_world.specs.World.{AreImages, World, image_of, opened, started, stored, truthful}
-use Rattle.urb_names.proofs.SentPairs.{all_append, all_weaker}
-use Rattle.urb_names.specs.CarriedPackets.{Carried}
-use Rattle.urb_names.specs.LabelsAndContents.{Limits}
-use Rattle.urb_names.specs.Nodes.{is_node, nodes, numbers_from}
+use Rattle.urb_world.specs.World.{stored}
 use Rattle.urb_names.specs.declared.refusal.Rule.{Rule}
 use Rattle.urb_names.specs.declared.refusal.Rule.TheVariants.{A, B, C, D}
-use Rattle.urb_node.specs.Part.{Node, State}
-use Rattle.urb_node.specs.Replies.{Reply, packets_in, Same}
-use Rattle.urb_stable.specs.Entries.{Entry, name_of}
-use Rattle.urb_stable.specs.Fitting.{Fits, Kept, Rules, broken, keeps_a, keeps_b, keeps_c, keeps_d}
-use Rattle.urb_stable.specs.Fitting.{misfits_behind}
+use Rattle.urb_stable.specs.Fitting.{broken, keeps_b}
 use Rattle.urb_stable.specs.declared.fitting.Misfit.{Misfit}
 use Rattle.urb_world.proofs.steps.StepCases.{OutcomeCases, node_of, outcome-cases, outcome_of}
 use Rattle.urb_world.proofs.steps.StepCases.{step-cases}
@@ -34,7 +28,6 @@ use Rattle.urb_world.proofs.steps.Submits.{leads-alone, leads-among}
 use Rattle.urb_world.proofs.steps.Commits.{leads-goes_down, leads-stored, leads-up_joined}
 use Rattle.urb_world.proofs.steps.Commits.{leads-up_same}
 use Rattle.urb_world.proofs.steps.Ticks.{leads-resends}
-use Rattle.urb_node.specs.declared.answer.Answer.TheVariants.{Accepted}
 use Rattle.urb_world.specs.EventEffects.{event_node}
 
 -- ---- one step

@@ -1,32 +1,19 @@
 -- Every payload that is stored, held or doubtful is within the limit, in every world of a run.
-use Rattle.std.proofs.Common.{List, None, Option, Some, [], ap, length, refl, subst, suc}
-use Rattle.std.proofs.Common.{sym, true, zero, ℕ, ⊎_elim, ◌++◌, ◌∷◌, ◌≡◌, ◌≤◌}
-use Rattle.std.proofs.lemmas.Bool.{false≢true}
+use Rattle.urb_world.proofs.Common.{AllByRecursion, Cause, Cert, Content, Entry, Event, Flags}
+use Rattle.urb_world.proofs.Common.{IsEntry, Label, Limits, List, MAX_PAYLOAD, Node, None, Option}
+use Rattle.urb_world.proofs.Common.{Pend, PendCert, Reply, Some, Storing, World, [], ap, arrives}
+use Rattle.urb_world.proofs.Common.{doubt, false≢true, has_pair, has_pair-cases, has_pair-first}
+use Rattle.urb_world.proofs.Common.{image_of, length, next_name, opened, pend, pend-append, refl}
+use Rattle.urb_world.proofs.Common.{run, step, subst, suc, sym, true, zero, ℕ, ⊎_elim, ◌++◌, ◌∷◌}
+use Rattle.urb_world.proofs.Common.{◌≡◌, ◌≤◌}
 use Rattle.std.proofs.lemmas.List.Elements.{recursion_from_All}
-use Rattle.std.specs.List.{All, AllByRecursion}
+use Rattle.std.specs.List.{All}
 use Rattle.urb_world.proofs.steps.ArrivalCases.{arrive-cases, told_node}
 use Rattle.urb_world.proofs.steps.ConfirmedPackets.{borne-pair}
 use Rattle.urb_world.specs.RunInvariant.{AreShort, DoubtShort, NodeShort, NodesShort}
-use Rattle.urb_world.specs.Step.{Event, run, step}
-use Rattle.urb_world.specs.World.{World, image_of, opened, stored}
-use Rattle.urb_names.proofs.FoundPairs.{has_pair-cases}
-use Rattle.urb_names.proofs.OrderedPairs.{has_pair-first}
-use Rattle.urb_names.specs.LabelsAndContents.{Content, Label, Limits}
-use Rattle.urb_names.specs.Pairs.{has_pair}
-use Rattle.urb_names.specs.declared.flags.Flags.{Flags}
-use Rattle.urb_names.specs.declared.limits.TheConstants.{MAX_PAYLOAD}
-use Rattle.urb_node.specs.Part.{Node, Storing}
-use Rattle.urb_node.specs.Replies.{Reply}
-use Rattle.urb_node.specs.Steps.{arrives, doubt}
-use Rattle.urb_names.specs.declared.limits.TheConstants.{MAX_PAYLOAD}
-use Rattle.urb_stable.proofs.JoinedRecords.{pend-append}
-use Rattle.urb_stable.specs.Entries.{Entry, IsEntry}
-use Rattle.urb_stable.specs.Records.{pend}
-use Rattle.urb_stable.specs.declared.record.Record.TheVariants.{Cert, Pend, PendCert}
-use Rattle.urb_node.specs.declared.cause.Cause.{Cause}
+use Rattle.urb_world.specs.World.{stored}
 use Rattle.urb_world.proofs.steps.StepCases.{OutcomeCases, node_of, outcome-cases, step-nodes}
 use Rattle.urb_world.specs.EventEffects.{event_node}
-use Rattle.urb_node.proofs.SubmitCases.{next_name}
 
 -- ---- records
 

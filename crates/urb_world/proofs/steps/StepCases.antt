@@ -1,29 +1,21 @@
 -- The cases of a step: the event is refused, or its node has one of a few outcomes. What each of
 -- these preserves, the step preserves.
-use Rattle.std.proofs.Common.{Bool, Err, List, None, Ok, Option, Some, [], cond, eqb-true, false}
-use Rattle.std.proofs.Common.{not, refl, subst, sym, true, ℕ, ◌&&◌, ◌++◌, ◌==◌, ◌∷◌, ◌≡◌, ◌⊎◌, inl}
-use Rattle.std.proofs.Common.{inr}
-use Rattle.std.proofs.lemmas.Bool.{cond_both, not-false}
+use Rattle.urb_world.proofs.Common.{Accepted, Arrive, Bool, Carried, Cause, Commit, Content, Crash}
+use Rattle.urb_world.proofs.Common.{Down, Entry, Err, Event, Fail, IsNew, Label, List, Node, None}
+use Rattle.urb_world.proofs.Common.{Ok, Option, Pend, PendCert, Ready, Refusal, Refused, Reply}
+use Rattle.urb_world.proofs.Common.{Restart, Same, Some, State, Stored, Storing, Submit, Tick}
+use Rattle.urb_world.proofs.Common.{World, [], arrives, at_node, broadcast_after, comes_up, commits}
+use Rattle.urb_world.proofs.Common.{cond, cond_both, crashes, done, drafts, eqb-true, fails, false}
+use Rattle.urb_world.proofs.Common.{first_name, goes_down, inl, inr, is_down, is_for, is_node}
+use Rattle.urb_world.proofs.Common.{is_storing, keeps_record, next_name, next_position, not}
+use Rattle.urb_world.proofs.Common.{not-false, packet_arrives, refl, refuses, resends, restarts}
+use Rattle.urb_world.proofs.Common.{same_record, says, step, submits, submits-cases, subst, sym}
+use Rattle.urb_world.proofs.Common.{true, truthful, world_after, ℕ, ◌&&◌, ◌++◌, ◌==◌, ◌∷◌, ◌≡◌, ◌⊎◌}
 use Rattle.urb_world.proofs.steps.OneNodeStep.{updated-at}
 use Rattle.urb_world.specs.EventEffects.{event_node}
-use Rattle.urb_world.specs.Step.{Arrive, Commit, Crash, Event, Fail, Restart, Submit, Tick, is_for}
-use Rattle.urb_world.specs.Step.{at_node, packet_arrives, step, world_after}
-use Rattle.urb_world.specs.World.{World, truthful}
-use Rattle.urb_names.specs.CarriedPackets.{Carried}
-use Rattle.urb_names.specs.LabelsAndContents.{Content, Label}
-use Rattle.urb_names.specs.Nodes.{is_node}
-use Rattle.urb_names.specs.declared.refusal.Refusal.{Refusal}
+use Rattle.urb_node.proofs.SubmitCases.{is-ready}
+use Rattle.urb_node.specs.Steps.{ticks}
 use Rattle.urb_names.specs.declared.refusal.Refusal.TheVariants as refusal
-use Rattle.urb_node.proofs.SubmitCases.{IsNew, first_name, is-ready, next_name, submits-cases}
-use Rattle.urb_node.specs.Part.{Down, Node, Ready, State, Storing}
-use Rattle.urb_node.specs.Replies.{Refused, Reply, Same, Stored}
-use Rattle.urb_node.specs.Steps.{arrives, broadcast_after, comes_up, commits, crashes, done, drafts}
-use Rattle.urb_node.specs.Steps.{fails, goes_down, is_down, is_storing, keeps_record, next_position}
-use Rattle.urb_node.specs.Steps.{refuses, resends, restarts, same_record, says, submits, ticks}
-use Rattle.urb_node.specs.declared.answer.Answer.TheVariants.{Accepted}
-use Rattle.urb_node.specs.declared.cause.Cause.{Cause}
-use Rattle.urb_stable.specs.Entries.{Entry}
-use Rattle.urb_stable.specs.declared.record.Record.TheVariants.{Pend, PendCert}
 
 -- the node that the event is of
 abbrev pub node_of : World → Event → Node

@@ -1,26 +1,16 @@
 -- A submit preserves what holds for all nodes.
-use Rattle.std.proofs.Common.{Bool, List, None, [], ap, arith, cond, eq-eqb, eqb-true, is_none}
-use Rattle.std.proofs.Common.{length, lt-ltb, ltb-true, nat_lt, refl, slice_get, subst, suc, sym}
-use Rattle.std.proofs.Common.{true, ℕ, ◌&&◌, ◌*◌, ◌++◌, ◌+◌, ◌<◌, ◌==◌, ◌∙◌, ◌∷◌, ◌≡◌}
-use Rattle.std.proofs.lemmas.Bool.{and_from, and_parts, cond-true}
+use Rattle.urb_world.proofs.Common.{Bool, Content, Entry, IsNew, Kept, Label, Limits, List, MayJoin}
+use Rattle.urb_world.proofs.Common.{Node, NodeKept, None, Pend, PendCert, [], and_from, and_parts}
+use Rattle.urb_world.proofs.Common.{ap, arith, cond, cond-true, drafts, eq-eqb, eqb-true, has_pair}
+use Rattle.urb_world.proofs.Common.{has_pair-itself, in_range, is_node, is_none, kept-numbered}
+use Rattle.urb_world.proofs.Common.{length, lt-ltb, ltb-true, majority_passes, message_of, name}
+use Rattle.urb_world.proofs.Common.{nat_lt, next_name, own, pend, pend-append, refl, slice_get}
+use Rattle.urb_world.proofs.Common.{subst, suc, sym, true, updated, ℕ, ◌&&◌, ◌*◌, ◌++◌, ◌+◌, ◌<◌}
+use Rattle.urb_world.proofs.Common.{◌==◌, ◌∙◌, ◌∷◌, ◌≡◌}
 use Rattle.urb_world.proofs.steps.DraftedRecords.{leads-drafts}
 use Rattle.urb_world.proofs.steps.OneNodeStep.{Leads, updated-at}
-use Rattle.urb_world.specs.RunInvariant.{MayJoin, NodeKept}
-use Rattle.urb_world.specs.World.{updated}
-use Rattle.urb_names.proofs.FoundPairs.{has_pair-itself}
-use Rattle.urb_names.specs.Names.{name}
-use Rattle.urb_names.specs.LabelsAndContents.{Content, Label, Limits}
-use Rattle.urb_names.specs.Nodes.{is_node, majority_passes}
-use Rattle.urb_names.specs.Pairs.{has_pair, message_of, next_number, own}
-use Rattle.urb_node.specs.Part.{Node}
-use Rattle.urb_stable.proofs.JoinedRecords.{pend-append}
-use Rattle.urb_stable.proofs.KeptRules.{kept-numbered}
-use Rattle.urb_stable.specs.Entries.{Entry}
-use Rattle.urb_stable.specs.Fitting.{Kept, in_range, is_next_own}
-use Rattle.urb_stable.specs.Records.{pend}
-use Rattle.urb_stable.specs.declared.record.Record.TheVariants.{Pend, PendCert}
-use Rattle.urb_node.proofs.SubmitCases.{IsNew, next_name}
-use Rattle.urb_node.specs.Steps.{drafts}
+use Rattle.urb_names.specs.Pairs.{next_number}
+use Rattle.urb_stable.specs.Fitting.{is_next_own}
 
 majority_one : (n p : ℕ) (f : ℕ → Bool) → (n == 1) ≡ true → is_node n p ≡ true → f p ≡ true
     → majority_passes n f ≡ true

@@ -1,14 +1,8 @@
 -- A tick preserves what holds for all nodes, and sends only stored pairs.
-use Rattle.std.proofs.Common.{List, ℕ, ◌≡◌}
+use Rattle.urb_world.proofs.Common.{Entry, Limits, List, Node, NodeKept, all-from, cert, due}
+use Rattle.urb_world.proofs.Common.{in_due, in_itself, in_resent, in_rising, pend, resends, rising}
+use Rattle.urb_world.proofs.Common.{ℕ, ◌≡◌}
 use Rattle.urb_world.proofs.steps.OneNodeStep.{Leads, leads-same}
-use Rattle.urb_world.specs.RunInvariant.{NodeKept}
-use Rattle.urb_names.proofs.SentPairs.{all-from, in_due, in_itself, in_resent, in_rising}
-use Rattle.urb_names.specs.CyclicOrder.{rising}
-use Rattle.urb_names.specs.LabelsAndContents.{Limits}
-use Rattle.urb_node.specs.Part.{Node}
-use Rattle.urb_node.specs.Steps.{due, resends}
-use Rattle.urb_stable.specs.Entries.{Entry}
-use Rattle.urb_stable.specs.Records.{cert, pend}
 
 -- a tick of a ready node preserves the rules
 pub leads-resends : (size : Limits) (images : ℕ → List Entry) (p : ℕ) (node : Node)

@@ -1,28 +1,20 @@
 -- What a stop leaves fits together also if storages hold records ahead of their events.
-use Rattle.std.proofs.Common.{Bool, List, None, Some, [], ap, append_assoc, cond, eqb-true}
-use Rattle.std.proofs.Common.{append-nil, false, inl, inr, refl, subst, sym, true, ℕ, ◌++◌, ◌==◌}
-use Rattle.std.proofs.Common.{◌∙◌}
-use Rattle.std.proofs.Common.{◌∷◌, ◌≡◌}
+use Rattle.urb_world.proofs.Common.{Begins, Bool, Down, Entry, Grows, IsAhead, IsEither, IsKept}
+use Rattle.urb_world.proofs.Common.{Kept, Limits, List, MayFollow, MayJoin, MayLeave, Node, None}
+use Rattle.urb_world.proofs.Common.{Ready, Some, State, StateKept, Storing, World, [], ap}
+use Rattle.urb_world.proofs.Common.{append-nil, append_assoc, cond, contents-either, doubt}
+use Rattle.urb_world.proofs.Common.{eqb-true, false, has_pair, inl, inr, kept-push, pend, refl}
+use Rattle.urb_world.proofs.Common.{rules-grow, subst, sym, true, updated, ℕ, ◌++◌, ◌==◌, ◌∙◌, ◌∷◌}
+use Rattle.urb_world.proofs.Common.{◌≡◌}
 use Rattle.urb_world.proofs.safety.AgreeingLogs.{entries-begin}
 use Rattle.urb_world.proofs.safety.SafeWorlds.{safe}
 use Rattle.urb_world.proofs.steps.DraftedRecords.{AllKept}
 use Rattle.urb_world.proofs.steps.Growth.{log-begins, pair-begins}
 use Rattle.urb_world.proofs.steps.Runs.{kept-fits}
 use Rattle.urb_world.proofs.stops.StoppedWorlds.{accepted-again}
-use Rattle.urb_world.specs.StoresAhead.{IsAhead, MayFollow, SurvivesAhead}
-use Rattle.urb_world.specs.RunInvariant.{IsKept, MayJoin, StateKept}
-use Rattle.urb_world.specs.ProcessStops.{MayLeave}
-use Rattle.urb_world.specs.World.{World, stored, updated}
-use Rattle.urb_names.specs.ListPrefixes.{Begins}
-use Rattle.urb_names.specs.LabelsAndContents.{Limits}
-use Rattle.urb_names.specs.Pairs.{has_pair}
-use Rattle.urb_node.specs.Part.{Down, Node, Ready, State, Storing}
-use Rattle.urb_node.specs.Steps.{doubt}
-use Rattle.urb_stable.proofs.Contents.{IsEither, contents-either}
-use Rattle.urb_stable.proofs.KeptRules.{Grows, kept-grow, kept-push, rules-grow}
-use Rattle.urb_stable.specs.Entries.{Entry}
-use Rattle.urb_stable.specs.Fitting.{Kept}
-use Rattle.urb_stable.specs.Records.{pend}
+use Rattle.urb_world.specs.StoresAhead.{SurvivesAhead}
+use Rattle.urb_world.specs.World.{stored}
+use Rattle.urb_stable.proofs.KeptRules.{kept-grow}
 
 -- ---- an image that is ahead
 

@@ -1,31 +1,23 @@
 -- Images of a group fit together under other limits if the cap and the majorities allow it, and
 -- only then.
-use Rattle.std.proofs.Common.{List, Some, [], ap, ap₂, arith, eq-eqb, false}
-use Rattle.std.proofs.Common.{length, lt-ltb, ltb-true, nat_lt, refl, slice_get, subst, suc, sym, true}
-use Rattle.std.proofs.Common.{ℕ, ⊎_elim, ◌++◌, ◌<◌, ◌∙◌, ◌∷◌, ◌≡◌, ◌≤◌}
-use Rattle.std.proofs.lemmas.Bool.{and_from, and_parts, cases_Bool, cases_lt}
+use Rattle.urb_world.proofs.Common.{AlwaysLeaves, Cert, Content, Entry, Fits, GoesOnUnder}
+use Rattle.urb_world.proofs.Common.{HaveMajorities, IsKept, Kept, Label, Limits, List, MayLeave}
+use Rattle.urb_world.proofs.Common.{Pend, PendCert, Some, World, [], and_from, and_parts, ap, ap₂}
+use Rattle.urb_world.proofs.Common.{arith, cases_Bool, cases_lt, eq-eqb, false, get_some, has_pair}
+use Rattle.urb_world.proofs.Common.{has_pair-found, has_pair-itself, has_pair-left, in_range}
+use Rattle.urb_world.proofs.Common.{is_node, keeps_a, kept-held, kept-known, kept-numbered}
+use Rattle.urb_world.proofs.Common.{kept-range, kept-unique, length, lt-ltb, ltb-true, message_of}
+use Rattle.urb_world.proofs.Common.{name, nat_lt, own, own_number, pend, pend-append, refl}
+use Rattle.urb_world.proofs.Common.{slice_get, some_found, subst, suc, sym, true, ℕ, ⊎_elim, ◌++◌}
+use Rattle.urb_world.proofs.Common.{◌<◌, ◌∙◌, ◌∷◌, ◌≡◌, ◌≤◌}
 use Rattle.std.proofs.lemmas.Option.{slice_get_within}
 use Rattle.urb_world.proofs.steps.DraftedRecords.{AllKept, to_sender}
 use Rattle.urb_world.proofs.steps.Runs.{kept-fits, node-kept}
 use Rattle.urb_world.proofs.stops.StoppedWorlds.{goes-on-under, left-kept}
-use Rattle.urb_world.specs.RunInvariant.{IsKept}
-use Rattle.urb_world.specs.StartLimits.{AreOfGroup, AreWithinCap, HaveMajorities, MayStartWith}
-use Rattle.urb_world.specs.ProcessStops.{AlwaysLeaves, GoesOnUnder, MayLeave}
-use Rattle.urb_world.specs.World.{World}
-use Rattle.urb_names.proofs.FoundPairs.{has_pair-found, has_pair-itself, has_pair-left, some_found}
-use Rattle.urb_names.proofs.Places.{get_some}
-use Rattle.urb_names.specs.Names.{name}
-use Rattle.urb_names.specs.LabelsAndContents.{Content, Label, Limits}
-use Rattle.urb_names.specs.Nodes.{is_node}
-use Rattle.urb_names.specs.Pairs.{has_pair, message_of, own}
-use Rattle.urb_stable.proofs.JoinedRecords.{pend-append}
-use Rattle.urb_stable.proofs.KeptRules.{kept-all, kept-held, kept-known, kept-numbered, kept-range}
-use Rattle.urb_stable.proofs.KeptRules.{kept-unique}
-use Rattle.urb_stable.proofs.OwnRules.{keeps_own-push, own_number, to_kept}
-use Rattle.urb_stable.specs.Entries.{Entry}
-use Rattle.urb_stable.specs.Fitting.{Fits, KeepsOwn, Kept, held_by_majority, in_range, keeps_a}
-use Rattle.urb_stable.specs.Records.{pend}
-use Rattle.urb_stable.specs.declared.record.Record.TheVariants.{Cert, Pend, PendCert}
+use Rattle.urb_world.specs.StartLimits.{AreOfGroup, AreWithinCap, MayStartWith}
+use Rattle.urb_stable.proofs.KeptRules.{kept-all}
+use Rattle.urb_stable.proofs.OwnRules.{keeps_own-push, to_kept}
+use Rattle.urb_stable.specs.Fitting.{KeepsOwn, held_by_majority}
 
 -- ---- the images of one group
 

@@ -1,30 +1,21 @@
 -- A node whose record is stored, whose store fails, or that restarts, and what its store may hold
 -- then.
-use Rattle.std.proofs.Math.Path.{fun_ext}
-use Rattle.std.proofs.Common.{Bool, List, None, Option, Some, [], ap, arith, eq-eqb, false, length}
-use Rattle.std.proofs.Common.{length-append, refl, subst, suc, sym, true, ℕ, ◌&&◌, ◌+◌, ◌++◌, ◌==◌}
-use Rattle.std.proofs.Common.{◌∙◌, ◌∷◌, ◌≡◌, ◌⊎◌, ⊎_elim, eqb-true}
-use Rattle.std.proofs.lemmas.Bool.{and_from, and_parts, cond-false, cond-true, cond_both}
-use Rattle.std.proofs.lemmas.Bool.{false≢true}
-use Rattle.urb_names.specs.LabelsAndContents.{Content}
-use Rattle.urb_names.specs.Nodes.{is_node}
-use Rattle.urb_names.specs.declared.refusal.Refusal.TheVariants as refusal
-use Rattle.urb_node.specs.Part.{Down, Node, Ready, State, Storing}
-use Rattle.urb_node.specs.Replies.{Refused, Reply, Stored}
-use Rattle.urb_node.specs.Steps.{comes_up, commits, done, doubt, fails, is_down, keeps_record}
-use Rattle.urb_node.specs.Steps.{next_position, refuses, restarts, restarts_with, same_list}
-use Rattle.urb_node.specs.Steps.{same_names, same_pairs, same_record, says, broadcast_after}
-use Rattle.urb_node.proofs.RestartReplies.{same_record-same}
+use Rattle.urb_world.proofs.Common.{Bool, Cause, Commit, Content, Down, Entry, Fail, List, MayLeave}
+use Rattle.urb_world.proofs.Common.{Node, None, Option, Ready, Refused, Reply, Restart, Some, State}
+use Rattle.urb_world.proofs.Common.{Stored, Storing, World, [], and_from, and_parts, ap, arith}
+use Rattle.urb_world.proofs.Common.{at_node, broadcast_after, cert, comes_up, commits, cond-false}
+use Rattle.urb_world.proofs.Common.{cond-true, cond_both, done, doubt, eq-eqb, eqb-true, fails}
+use Rattle.urb_world.proofs.Common.{false, false≢true, fun_ext, is_down, is_node, keeps_record}
+use Rattle.urb_world.proofs.Common.{length, log, next_position, pend, refl, refuses, restarts}
+use Rattle.urb_world.proofs.Common.{restarts_with, same_list, same_names, same_pairs, same_record}
+use Rattle.urb_world.proofs.Common.{same_record-same, says, step, subst, suc, sym, true, updated}
+use Rattle.urb_world.proofs.Common.{world_after, ℕ, ⊎_elim, ◌&&◌, ◌++◌, ◌+◌, ◌==◌, ◌∙◌, ◌∷◌, ◌≡◌}
+use Rattle.urb_world.proofs.Common.{◌⊎◌}
+use Rattle.std.proofs.Common.{length-append}
 use Rattle.urb_world.proofs.recovery.ReturningNodes.{says-itself}
-use Rattle.urb_stable.specs.Entries.{Entry}
-use Rattle.urb_stable.specs.DeliveredLogs.{log}
-use Rattle.urb_stable.specs.Records.{cert, pend}
 use Rattle.urb_stable.specs.StableStorage.{IsContents}
 use Rattle.urb_world.proofs.steps.OneNodeStep.{updated-at}
-use Rattle.urb_world.specs.Step.{Commit, Fail, Restart, at_node, step, world_after}
-use Rattle.urb_world.specs.ProcessStops.{MayLeave}
-use Rattle.urb_world.specs.World.{World, updated}
-use Rattle.urb_node.specs.declared.cause.Cause.{Cause}
+use Rattle.urb_names.specs.declared.refusal.Refusal.TheVariants as refusal
 
 -- ---- what records say of themselves
 

@@ -1,41 +1,28 @@
 -- What a stop leaves of a world that keeps the rules fits together, and opens a group that goes on
 -- from it.
-use Rattle.std.proofs.Common.{Bool, List, None, Some, [], ap, ap₂, bytes_eq, cond, eq-eqb, eqb-true}
-use Rattle.std.proofs.Common.{arith, false, find, inl, inr, le-ltb, length, lt-ltb, ltb-true, nat_lt}
-use Rattle.std.proofs.Common.{refl, slice_get, subst, suc, sym, true, ℕ, ◌++◌, ◌<◌, ◌==◌, ◌∙◌, ◌∷◌}
-use Rattle.std.proofs.Common.{◌≡◌, ◌≤◌}
-use Rattle.std.proofs.lemmas.Bool.{and_from, and_parts, cond-false, cond-true}
+use Rattle.urb_world.proofs.Common.{Accepted, Begins, Bool, Content, Down, Entry, GoesOnUnder}
+use Rattle.urb_world.proofs.Common.{Grows, IsEither, IsKept, Kept, Label, Limits, List, MAX_PAYLOAD}
+use Rattle.urb_world.proofs.Common.{MayJoin, MayLeave, Node, NodesKept, None, Ready, Reply, Same}
+use Rattle.urb_world.proofs.Common.{Some, State, StateKept, Storing, Submit, SurvivesStop, World}
+use Rattle.urb_world.proofs.Common.{[], and_from, and_parts, ap, ap₂, arith, bytes_eq, cond}
+use Rattle.urb_world.proofs.Common.{cond-false, cond-true, contents-either, doubt, eq-eqb, eqb-true}
+use Rattle.urb_world.proofs.Common.{false, find, has_pair, has_pair-left, inl, inr, is_node}
+use Rattle.urb_world.proofs.Common.{is_numbered, kept-numbered, kept-push, kept-unique, le-ltb}
+use Rattle.urb_world.proofs.Common.{length, lt-ltb, ltb-true, message_of, name, nat_lt, opened}
+use Rattle.urb_world.proofs.Common.{opened_node, own, own_number, pend, pend-append}
+use Rattle.urb_world.proofs.Common.{position_or_len, refl, rules-grow, slice_get, step, subst, suc}
+use Rattle.urb_world.proofs.Common.{sym, true, updated, ℕ, ◌++◌, ◌<◌, ◌==◌, ◌∙◌, ◌∷◌, ◌≡◌, ◌≤◌}
 use Rattle.std.proofs.lemmas.Slice.Eq.{bytes_eq-Decides}
-use Rattle.std.specs.List.{position_or_len}
 use Rattle.urb_world.proofs.safety.AgreeingLogs.{entries-begin}
 use Rattle.urb_world.proofs.safety.SafeWorlds.{safe}
 use Rattle.urb_world.proofs.steps.DraftedRecords.{AllKept}
 use Rattle.urb_world.proofs.steps.Growth.{begins-itself, begins-push, log-begins, pair-begins}
 use Rattle.urb_world.proofs.steps.Runs.{kept-fits}
-use Rattle.urb_world.specs.RunInvariant.{IsKept, MayJoin, NodesKept, StateKept}
-use Rattle.urb_world.specs.Step.{Submit, step}
-use Rattle.urb_world.specs.ProcessStops.{GoesOnUnder, MayLeave, SurvivesStop}
-use Rattle.urb_world.specs.World.{World, opened, stored, updated}
+use Rattle.urb_world.specs.World.{stored}
 use Rattle.urb_names.proofs.ClientNumbers.{Numbers}
-use Rattle.urb_names.proofs.FoundPairs.{has_pair-left}
-use Rattle.urb_names.specs.ListPrefixes.{Begins}
-use Rattle.urb_names.specs.Names.{name}
-use Rattle.urb_names.specs.LabelsAndContents.{Content, Label, Limits}
-use Rattle.urb_names.specs.Nodes.{is_node}
-use Rattle.urb_names.specs.Pairs.{has_pair, is_numbered, message_of, own}
-use Rattle.urb_names.specs.declared.limits.TheConstants.{MAX_PAYLOAD}
-use Rattle.urb_node.specs.Part.{Down, Node, Ready, State, Storing, opened_node}
-use Rattle.urb_node.specs.Replies.{Reply, Same}
-use Rattle.urb_node.specs.Steps.{doubt, submits_by_number}
-use Rattle.urb_node.specs.declared.answer.Answer.TheVariants.{Accepted}
-use Rattle.urb_stable.proofs.Contents.{IsEither, contents-either}
-use Rattle.urb_stable.proofs.JoinedRecords.{pend-append}
-use Rattle.urb_stable.proofs.KeptRules.{Grows, kept-grow, kept-numbered, kept-push, kept-unique}
-use Rattle.urb_stable.proofs.KeptRules.{rules-grow}
-use Rattle.urb_stable.proofs.OwnRules.{kept-numbers, own_number}
-use Rattle.urb_stable.specs.Entries.{Entry}
-use Rattle.urb_stable.specs.Fitting.{Kept}
-use Rattle.urb_stable.specs.Records.{pend}
+use Rattle.urb_node.specs.Steps.{submits_by_number}
+use Rattle.urb_stable.proofs.KeptRules.{kept-grow}
+use Rattle.urb_stable.proofs.OwnRules.{kept-numbers}
 
 -- whatever a stop leaves of a world that meets the rules meets them
 pub left-kept : (w : World) (inv : NodesKept w) (images : ℕ → List Entry)

@@ -1,18 +1,14 @@
 -- Cyclic order of names: the first name, and the first once the cursor is there.
-use Rattle.std.proofs.Common.{◌≡◌, Bool, true, false, cond, not, List, [], ◌∷◌, ◌++◌, filter}
-use Rattle.std.proofs.Common.{length, Option, None, Some, refl, sym, ap, ap₂, ◌∙◌, subst}
-use Rattle.std.proofs.Common.{append-nil, append_assoc, ⊎_elim}
-use Rattle.std.specs.List.{list_all}
-use Rattle.std.proofs.lemmas.Bool.{and_parts, and_from, cond-true, cond-false, cases_Bool}
-use Rattle.std.proofs.lemmas.Bool.{false≢true}
-use Rattle.std.proofs.lemmas.List.Elements.{filter-append}
+use Rattle.urb_world.proofs.Common.{Bool, Content, Label, List, None, Option, Some, [], and_from}
+use Rattle.urb_world.proofs.Common.{and_parts, ap, append-nil, append_assoc, ap₂, are_rising}
+use Rattle.urb_world.proofs.Common.{cases_Bool, cond, cond-false, cond-true, cyclic, false}
+use Rattle.urb_world.proofs.Common.{false≢true, filter, filter-append, is_after, length, list_all}
+use Rattle.urb_world.proofs.Common.{name_lt, name_lt-strict, name_lt-trans, not, refl, subst, sym}
+use Rattle.urb_world.proofs.Common.{true, ⊎_elim, ◌++◌, ◌∙◌, ◌∷◌, ◌≡◌}
 use Rattle.std.proofs.lemmas.List.Filters.{length-filter_both}
 use Rattle.std.proofs.lemmas.List.{length-append}
 use Rattle.urb_stubborn.proofs.PairRanges.{all_pass}
-use Rattle.urb_names.specs.LabelsAndContents.{Label, Content}
-use Rattle.urb_names.specs.Names.{name_lt}
-use Rattle.urb_names.specs.CyclicOrder.{are_rising, cyclic, is_after}
-use Rattle.urb_names.proofs.RisingPairs.{name_lt-other_way, name_lt-strict, name_lt-trans}
+use Rattle.urb_names.proofs.RisingPairs.{name_lt-other_way}
 
 abbrev Pairs : Type 0
 Pairs = List (Label × Content)

@@ -1,25 +1,16 @@
 -- The pairs that are due are in rising order. A pair is among them if the certificate of some node
 -- was not heard.
-use Rattle.std.proofs.Common.{Bool, List, None, [], ap, arith, false, filter, length, not, refl}
-use Rattle.std.proofs.Common.{subst, suc, sym, true, ℕ, ⊎_elim, ◌&&◌, ◌||◌, ◌∙◌, ◌∷◌, ◌≡◌, ◌≤◌}
-use Rattle.std.proofs.lemmas.Bool.{and_from, cases_Bool, cond_both, or_left, or_right}
-use Rattle.std.specs.List.{list_all, list_any}
+use Rattle.urb_world.proofs.Common.{Bool, Content, Entry, Kept, Label, Limits, List, None, []}
+use Rattle.urb_world.proofs.Common.{acked, and_from, ap, are_rising, arith, cases_Bool, cond_both}
+use Rattle.urb_world.proofs.Common.{due_of, false, filter, has_pair, has_pair-behind}
+use Rattle.urb_world.proofs.Common.{has_pair-first, has_pair-head, inserted, is_due, length}
+use Rattle.urb_world.proofs.Common.{list_all, list_any, message_of, name_lt, no_pair, not, or_left}
+use Rattle.urb_world.proofs.Common.{or_right, others, pairs-all, pend, refl, rising, same_message}
+use Rattle.urb_world.proofs.Common.{same_name, same_name-true, subst, suc, sym, true, ℕ, ⊎_elim}
+use Rattle.urb_world.proofs.Common.{◌&&◌, ◌||◌, ◌∙◌, ◌∷◌, ◌≡◌, ◌≤◌}
 use Rattle.urb_world.proofs.ticks.Membership.{IsIn, in-filter, in-pairs, in-rising}
-use Rattle.urb_names.proofs.FoundPairs.{no_pair}
-use Rattle.urb_names.proofs.OrderedPairs.{Rises, has_pair-behind, has_pair-first, has_pair-head}
-use Rattle.urb_names.proofs.OrderedPairs.{has_pair-inserted, rises-inserted}
+use Rattle.urb_names.proofs.OrderedPairs.{Rises, has_pair-inserted, rises-inserted}
 use Rattle.urb_names.proofs.RisingPairs.{rising-push}
-use Rattle.urb_names.proofs.SameNames.{same_name-true}
-use Rattle.urb_names.specs.Acknowledgements.{acked}
-use Rattle.urb_names.specs.CarriedPackets.{due_of, is_due, others}
-use Rattle.urb_names.specs.CyclicOrder.{are_rising, inserted, rising}
-use Rattle.urb_names.specs.Names.{name_lt, same_message, same_name}
-use Rattle.urb_names.specs.LabelsAndContents.{Content, Label, Limits}
-use Rattle.urb_names.specs.Pairs.{has_pair, message_of}
-use Rattle.urb_stable.proofs.KeptRules.{pairs-all}
-use Rattle.urb_stable.specs.Entries.{Entry}
-use Rattle.urb_stable.specs.Fitting.{Kept}
-use Rattle.urb_stable.specs.Records.{pend}
 
 abbrev Pairs : Type 0
 Pairs = List (Label × Content)

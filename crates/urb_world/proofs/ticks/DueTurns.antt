@@ -1,25 +1,21 @@
 -- A pair that stays due gets its turn. Due pairs are those of all pairs that pass a test, and each
 -- tick that leaves one out passes NAMES_PER_TICK.
-use Rattle.std.proofs.Common.{Bool, List, Option, [], ap, arith, cond, false, filter, inl, inr}
-use Rattle.std.proofs.Common.{length, not, refl, subst, sym, true, ⊎_elim, ◌*◌, ◌+◌, ◌++◌, ◌<◌}
-use Rattle.std.proofs.Common.{◌||◌, ◌∙◌, ◌∷◌, ◌≡◌, ◌≤◌, ◌⊎◌}
-use Rattle.std.proofs.lemmas.Bool.{and_parts, cases_Bool, cond-false, cond-true, false≢true}
-use Rattle.std.proofs.lemmas.Bool.{or_left, or_right}
+use Rattle.urb_world.proofs.Common.{AllByRecursion, Bool, Content, IsDueAmong, Label, List}
+use Rattle.urb_world.proofs.Common.{NAMES_PER_TICK, Option, [], and_parts, ap, are_rising, arith}
+use Rattle.urb_world.proofs.Common.{cases_Bool, cond, cond-false, cond-true, cursor_next, cyclic}
+use Rattle.urb_world.proofs.Common.{false, false≢true, filter, has_pair, has_pair-behind}
+use Rattle.urb_world.proofs.Common.{has_pair-head, inl, inr, is_after, length, list_all, list_any}
+use Rattle.urb_world.proofs.Common.{name_lt, name_lt-strict, name_lt-trans, not, or_left, or_right}
+use Rattle.urb_world.proofs.Common.{refl, resent, same_name, same_name-same, same_name-true, subst}
+use Rattle.urb_world.proofs.Common.{sym, true, ⊎_elim, ◌*◌, ◌++◌, ◌+◌, ◌<◌, ◌||◌, ◌∙◌, ◌∷◌, ◌≡◌}
+use Rattle.urb_world.proofs.Common.{◌≤◌, ◌⊎◌}
 use Rattle.std.proofs.lemmas.List.{length-append}
-use Rattle.std.specs.List.{AllByRecursion, list_all, list_any, prefix_len}
-use Rattle.urb_names.specs.declared.limits.TheConstants.{NAMES_PER_TICK}
+use Rattle.std.specs.List.{prefix_len}
 use Rattle.urb_world.proofs.ticks.PassedPairs.{Nearer, passes}
 use Rattle.urb_world.proofs.ticks.Membership.{IsIn, in-all, in-left, in-pairs, in-right}
 use Rattle.urb_world.proofs.ticks.CyclicOrder.{length-cyclic}
 use Rattle.urb_world.proofs.ticks.TickCoverage.{in-cyclic}
-use Rattle.urb_world.specs.Resends.{IsDueAmong, cursor_next, resent_over, turn_of}
-use Rattle.urb_names.proofs.OrderedPairs.{has_pair-behind, has_pair-head}
-use Rattle.urb_names.proofs.RisingPairs.{name_lt-strict, name_lt-trans}
-use Rattle.urb_names.proofs.SameNames.{same_name-same, same_name-true}
-use Rattle.urb_names.specs.CyclicOrder.{are_rising, cyclic, is_after, resent}
-use Rattle.urb_names.specs.Names.{name_lt, same_name}
-use Rattle.urb_names.specs.LabelsAndContents.{Content, Label}
-use Rattle.urb_names.specs.Pairs.{has_pair}
+use Rattle.urb_world.specs.Resends.{resent_over, turn_of}
 
 abbrev Pairs : Type 0
 Pairs = List (Label × Content)

@@ -1,14 +1,10 @@
 -- Elements of a list, and of the lists that are made of it.
-use Rattle.std.proofs.Common.{Bool, List, Some, [], ap, ap₂, filter, flat_map, inl, inr, map, refl}
-use Rattle.std.proofs.Common.{slice_get, suc, sym, take, true, zero, ℕ, ⊎_elim, ◌&&◌, ◌++◌, ◌∙◌}
-use Rattle.std.proofs.Common.{◌∷◌, ◌≡◌, ◌⊎◌, subst, length, arith, ◌<◌}
-use Rattle.std.proofs.lemmas.Bool.{and_parts, cond-true, cond_both, false≢true, or_cases}
-use Rattle.std.specs.List.{AllByRecursion}
-use Rattle.urb_names.proofs.SameNames.{same_message-true, same_name-true}
-use Rattle.urb_names.specs.CyclicOrder.{inserted, rising}
-use Rattle.urb_names.specs.Names.{name_lt, same_message, same_name}
-use Rattle.urb_names.specs.LabelsAndContents.{Content, Label}
-use Rattle.urb_names.specs.Pairs.{has_pair}
+use Rattle.urb_world.proofs.Common.{AllByRecursion, Bool, Content, Label, List, Some, [], and_parts}
+use Rattle.urb_world.proofs.Common.{ap, ap₂, arith, cond-true, cond_both, false≢true, filter}
+use Rattle.urb_world.proofs.Common.{flat_map, has_pair, inl, inr, inserted, length, map, name_lt}
+use Rattle.urb_world.proofs.Common.{or_cases, refl, rising, same_message, same_message-true}
+use Rattle.urb_world.proofs.Common.{same_name, same_name-true, slice_get, subst, suc, sym, take}
+use Rattle.urb_world.proofs.Common.{true, zero, ℕ, ⊎_elim, ◌&&◌, ◌++◌, ◌<◌, ◌∙◌, ◌∷◌, ◌≡◌, ◌⊎◌}
 
 -- the element is in the list
 abbrev pub IsIn : {A : Type 0} → A → List A → Type 0

@@ -1,17 +1,14 @@
 -- Ticks over pairs that come and go: a tick that leaves a due pair out passes NAMES_PER_TICK
 -- others.
-use Rattle.std.proofs.Common.{Bool, List, Option, Some, [], ap, ap₂, append_assoc, arith, false}
-use Rattle.std.proofs.Common.{filter, inl, inr, length, not, refl, subst, suc, sym, take, true}
-use Rattle.std.proofs.Common.{zero, ℕ, ⊎_elim, ◌+◌, ◌++◌, ◌<◌, ◌∙◌, ◌∷◌, ◌≡◌, ◌≤◌, ◌⊎◌}
-use Rattle.std.proofs.lemmas.Bool.{cases_Bool, cases_lt, cond-false, cond-true}
-use Rattle.std.proofs.lemmas.List.Elements.{filter-append}
-use Rattle.std.proofs.lemmas.List.{length-append, take-append-le}
-use Rattle.urb_names.specs.declared.limits.TheConstants.{NAMES_PER_TICK}
+use Rattle.urb_world.proofs.Common.{Bool, Content, Label, List, NAMES_PER_TICK, Option, Some, []}
+use Rattle.urb_world.proofs.Common.{ap, append_assoc, ap₂, are_rising, arith, cases_Bool, cases_lt}
+use Rattle.urb_world.proofs.Common.{cond-false, cond-true, cursor_next, cyclic, false, filter}
+use Rattle.urb_world.proofs.Common.{filter-append, inl, inr, is_after, last_name, length, not, refl}
+use Rattle.urb_world.proofs.Common.{resent, subst, suc, sym, take, take-append-le, true, zero, ℕ}
+use Rattle.urb_world.proofs.Common.{⊎_elim, ◌++◌, ◌+◌, ◌<◌, ◌∙◌, ◌∷◌, ◌≡◌, ◌≤◌, ◌⊎◌}
+use Rattle.std.proofs.lemmas.List.{length-append}
 use Rattle.urb_world.proofs.ticks.Membership.{IsIn, in-take}
 use Rattle.urb_world.proofs.ticks.TickCoverage.{turned}
-use Rattle.urb_names.specs.CyclicOrder.{are_rising, cyclic, is_after, last_name, resent}
-use Rattle.urb_names.specs.LabelsAndContents.{Content, Label}
-use Rattle.urb_world.specs.Resends.{cursor_next}
 
 abbrev Pairs : Type 0
 Pairs = List (Label × Content)

@@ -1,14 +1,12 @@
 -- Tick after tick: in as many ticks as there are pairs, each pair has its turn.
-use Rattle.std.proofs.Common.{List, Option, Some, [], ap, append-nil, append_assoc, arith, drop}
-use Rattle.std.proofs.Common.{filter, length, not, subst, suc, sym, take, true, zero, ℕ, ⊎_elim}
-use Rattle.std.proofs.Common.{◌++◌, ◌<◌, ◌∙◌, ◌∷◌, ◌≡◌, ◌≤◌}
-use Rattle.std.proofs.lemmas.Bool.{cases_Bool, cases_lt}
-use Rattle.std.proofs.lemmas.List.{length-append, length-drop, take-append-drop, take-append-le}
-use Rattle.urb_names.specs.declared.limits.TheConstants.{NAMES_PER_TICK}
+use Rattle.urb_world.proofs.Common.{AllIn, Content, Label, List, NAMES_PER_TICK, Option, Some, []}
+use Rattle.urb_world.proofs.Common.{all_append, ap, append-nil, append_assoc, are_rising, arith}
+use Rattle.urb_world.proofs.Common.{cases_Bool, cases_lt, cyclic, drop, filter, in_resent, is_after}
+use Rattle.urb_world.proofs.Common.{last_name, length, not, resent, subst, suc, sym, take}
+use Rattle.urb_world.proofs.Common.{take-append-le, true, zero, ℕ, ⊎_elim, ◌++◌, ◌<◌, ◌∙◌, ◌∷◌, ◌≡◌}
+use Rattle.urb_world.proofs.Common.{◌≤◌}
+use Rattle.std.proofs.lemmas.List.{length-append, length-drop, take-append-drop}
 use Rattle.urb_world.proofs.ticks.Membership.{IsIn, in-filter, in-left, in-right, in-split, in-take}
-use Rattle.urb_names.proofs.SentPairs.{AllIn, all_append, in_resent}
-use Rattle.urb_names.specs.CyclicOrder.{are_rising, cyclic, is_after, last_name, resent}
-use Rattle.urb_names.specs.LabelsAndContents.{Content, Label}
 use Rattle.urb_world.proofs.ticks.CyclicOrder.{length-cyclic, turn}
 
 -- the cursor after k ticks

@@ -1,8 +1,6 @@
-use Rattle.std.proofs.Common.{rules, sym, subst, ◌≡◌, ◌<◌, ◌≤◌, ◌-◌, ◌^◌, ℕ, suc, true, false, List}
-use Rattle.std.proofs.Common.{filter, slice_set}
-use Rattle.urb_names.specs.LabelsAndContents.{Label}
-use Rattle.urb_names.specs.Names.{has_name, name}
-use Rattle.urb_certified.specs.internal.PartInvariant.{IsJoined, is_left}
+use Rattle.urb_certified.proofs.Common.{IsJoined, Label, List, false, filter, has_name, is_left}
+use Rattle.urb_certified.proofs.Common.{name, rules, slice_set, subst, suc, sym, true, ℕ, ◌-◌, ◌<◌}
+use Rattle.urb_certified.proofs.Common.{◌^◌, ◌≡◌, ◌≤◌}
 use Rattle.urb_certified.proofs.CertifiedParts.{closes}
 use Rattle.urb_certified.proofs.parts.close_gap.Goals as goal
 

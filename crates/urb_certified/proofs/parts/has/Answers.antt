@@ -1,6 +1,4 @@
-use Rattle.std.proofs.Common.{rules, sym, ◌∙◌, ◌≤◌, ◌<◌}
-use Rattle.std.proofs.lemmas.Bool.{le-leb}
-use Rattle.urb_certified.specs.internal.PartInvariant.{low_of}
+use Rattle.urb_certified.proofs.Common.{le-leb, low_of, rules, sym, ◌<◌, ◌∙◌, ◌≤◌}
 use Rattle.urb_certified.proofs.PartMembers.{all_low, upper_only}
 use Rattle.urb_certified.proofs.parts.has.Goals as goal
 

@@ -1,5 +1,4 @@
-use Rattle.std.proofs.Common.{sym, subst}
-use Rattle.urb_certified.specs.internal.PartInvariant.{IsJoined}
+use Rattle.urb_certified.proofs.Common.{IsJoined, subst, sym}
 use Rattle.urb_certified.proofs.CertifiedParts.{puts}
 use Rattle.urb_certified.proofs.parts.join.Goals as goal
 

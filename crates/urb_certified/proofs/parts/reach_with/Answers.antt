@@ -1,5 +1,4 @@
-use Rattle.std.proofs.Common.{rules, sym, ◌∙◌, ◌≡◌}
-use Rattle.urb_certified.specs.internal.PartInvariant.{low_of}
+use Rattle.urb_certified.proofs.Common.{low_of, rules, sym, ◌∙◌, ◌≡◌}
 use Rattle.urb_certified.proofs.SenderReaches.{reach_joins, reach_stays}
 use Rattle.urb_certified.proofs.parts.reach_with.Goals as goal
 

@@ -1,8 +1,6 @@
-use Rattle.std.proofs.Common.{◌≡◌, subst, true}
+use Rattle.urb_certified.proofs.Common.{Label, same_name, same_name-same, same_name-true, subst}
+use Rattle.urb_certified.proofs.Common.{true, ◌≡◌}
 use Rattle.std.proofs.lemmas.Slice.Eq.{slice_eq-Decides}
-use Rattle.urb_names.specs.LabelsAndContents.{Label}
-use Rattle.urb_names.specs.Names.{same_name}
-use Rattle.urb_names.proofs.SameNames.{same_name-same, same_name-true}
 use Rattle.urb_certified.proofs.row.are_same.Goals as goal
 
 pub returns : goal.returns

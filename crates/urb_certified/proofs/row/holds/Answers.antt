@@ -1,7 +1,6 @@
-use Rattle.std.proofs.Common.{rules, ap, sym, ◌∙◌, ◌≡◌, ◌<◌, ◌≤◌, length, get_or}
-use Rattle.std.specs.List.{prefix_len}
+use Rattle.urb_certified.proofs.Common.{ap, get_or, length, name_lt, prefix_len, rules, same_name}
+use Rattle.urb_certified.proofs.Common.{sym, ◌<◌, ◌∙◌, ◌≡◌, ◌≤◌}
 use Rattle.std.proofs.lemmas.Bool.{le-ltb}
-use Rattle.urb_names.specs.Names.{name_lt, same_name}
 use Rattle.urb_certified.proofs.NameOrder.{names_in_order}
 use Rattle.urb_certified.proofs.BinarySearches.{absent_is, found_is}
 use Rattle.urb_certified.proofs.row.holds.Goals as goal

@@ -1,6 +1,5 @@
-use Rattle.std.proofs.Common.{rules}
+use Rattle.urb_certified.proofs.Common.{name_lt, rules, same_name}
 use Rattle.std.proofs.lemmas.List.Sorted.{IsPartitionPoint-from_clause}
-use Rattle.urb_names.specs.Names.{name_lt, same_name}
 use Rattle.urb_certified.proofs.NameOrder.{names_in_order}
 use Rattle.urb_certified.proofs.BinarySearches.{parted, point_is}
 use Rattle.urb_certified.proofs.row.place_of.Goals as goal

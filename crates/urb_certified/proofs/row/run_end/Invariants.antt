@@ -1,5 +1,4 @@
-use Rattle.std.proofs.Common.{◌≡◌, ℕ, ◌<◌, ◌≤◌, ◌-◌, ◌^◌, true}
-use Rattle.urb_names.specs.Names.{has_name, name}
+use Rattle.urb_certified.proofs.Common.{has_name, name, true, ℕ, ◌-◌, ◌<◌, ◌^◌, ◌≡◌, ◌≤◌}
 use Rattle.urb_certified.proofs.row.run_end.Given as goal
 
 -- all names up to here are there

@@ -1,5 +1,4 @@
-use Rattle.std.proofs.Common.{◌≤◌, ◌-◌, take, length}
-use Rattle.std.specs.Io.KnownBytes.{Consumes}
+use Rattle.urb_client.proofs.Common.{Consumes, length, take, ◌-◌, ◌≤◌}
 use Rattle.urb_client.proofs.full_read.read_full.Given as goal
 
 -- what is filled so far is what the reader lost

@@ -1,7 +1,6 @@
-use Rattle.std.proofs.Common.{◌≡◌, ◌+◌, ◌<◌, ℕ, length, take, refl, arith, ap}
-use Rattle.std.proofs.lemmas.List.{nil_from_length}
-use Rattle.urb_client.specs.declared.format.TheConstants.{ENTRY_HEAD, LONGEST_FRAME}
-use Rattle.urb_client.proofs.PageLists.{size, size-more, no_more}
+use Rattle.urb_client.proofs.Common.{ENTRY_HEAD, LONGEST_FRAME, ap, arith, length, nil_from_length}
+use Rattle.urb_client.proofs.Common.{refl, take, ℕ, ◌+◌, ◌<◌, ◌≡◌}
+use Rattle.urb_client.proofs.PageLists.{no_more, size, size-more}
 use Rattle.urb_client.proofs.pages.measure_fitting.Goals as goal
 
 pub loop-message-init : goal.loop-message-init

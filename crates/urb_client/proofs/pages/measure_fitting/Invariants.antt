@@ -1,5 +1,4 @@
-use Rattle.std.proofs.Common.{◌≡◌, ◌≤◌, ◌+◌, take}
-use Rattle.urb_client.specs.declared.format.TheConstants.{LISTING_HEAD, LONGEST_FRAME}
+use Rattle.urb_client.proofs.Common.{LISTING_HEAD, LONGEST_FRAME, take, ◌+◌, ◌≡◌, ◌≤◌}
 use Rattle.urb_client.proofs.PageLists.{size}
 use Rattle.urb_client.proofs.pages.measure_fitting.Given as goal
 

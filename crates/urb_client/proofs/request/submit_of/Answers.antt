@@ -1,5 +1,4 @@
-use Rattle.std.proofs.Common.{rules, refl, inr}
-use Rattle.std.proofs.lemmas.Result.{err_from_is_err_and}
+use Rattle.urb_client.proofs.Common.{err_from_is_err_and, inr, refl, rules}
 use Rattle.urb_client.proofs.RequestLaws.{is_submit}
 use Rattle.urb_client.proofs.request.submit_of.Goals as goal
 

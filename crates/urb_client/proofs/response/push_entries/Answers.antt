@@ -1,6 +1,4 @@
-use Rattle.std.proofs.Common.{◌++◌}
-use Rattle.std.specs.List.{flat_map}
-use Rattle.urb_client.specs.Listings.{entry_bytes}
+use Rattle.urb_client.proofs.Common.{entry_bytes, flat_map, ◌++◌}
 use Rattle.urb_client.proofs.EntryBytes.{one_more}
 use Rattle.urb_client.proofs.response.push_entries.Goals as goal
 

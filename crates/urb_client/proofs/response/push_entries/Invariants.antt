@@ -1,6 +1,4 @@
-use Rattle.std.proofs.Common.{◌≡◌, ◌++◌, drop}
-use Rattle.std.specs.List.{flat_map}
-use Rattle.urb_client.specs.Listings.{entry_bytes}
+use Rattle.urb_client.proofs.Common.{drop, entry_bytes, flat_map, ◌++◌, ◌≡◌}
 use Rattle.urb_client.proofs.response.push_entries.Given as goal
 
 -- what is pushed so far, and what is left

@@ -1,5 +1,4 @@
-use Rattle.std.proofs.Common.{append_assoc}
-use Rattle.urb_client.specs.Listings.{entry_head}
+use Rattle.urb_client.proofs.Common.{append_assoc, entry_head}
 use Rattle.urb_client.proofs.response.push_entry.Goals as goal
 
 pub returns : goal.returns

@@ -1,6 +1,4 @@
-use Rattle.std.proofs.Common.{take}
-use Rattle.std.specs.List.{All}
-use Rattle.urb_client.specs.Listings.{IsEntry}
+use Rattle.urb_client.proofs.Common.{All, IsEntry, take}
 use Rattle.urb_client.proofs.response.recall_entries.Given as goal
 
 -- all so far are

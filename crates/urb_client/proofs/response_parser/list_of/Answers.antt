@@ -1,6 +1,5 @@
-use Rattle.std.proofs.Common.{rules, sym}
-use Rattle.urb_client.specs.internal.ParsedResponses.{entries_at}
-use Rattle.urb_client.proofs.EntryLoop.{goes_on, stops, is_done}
+use Rattle.urb_client.proofs.Common.{entries_at, rules, sym}
+use Rattle.urb_client.proofs.EntryLoop.{goes_on, is_done, stops}
 use Rattle.urb_client.proofs.response_parser.list_of.Goals as goal
 
 pub returns-clause-read : goal.returns-clause-read

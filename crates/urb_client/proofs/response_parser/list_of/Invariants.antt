@@ -1,5 +1,4 @@
-use Rattle.std.proofs.Common.{◌≡◌, ◌-◌, length}
-use Rattle.urb_client.specs.internal.ParsedResponses.{entries_at}
+use Rattle.urb_client.proofs.Common.{entries_at, length, ◌-◌, ◌≡◌}
 use Rattle.urb_client.proofs.EntryLoop.{with_front}
 use Rattle.urb_client.proofs.response_parser.list_of.Given as goal
 

@@ -1,5 +1,4 @@
-use Rattle.std.proofs.Common.{arith}
-use Rattle.urb_client.specs.Responses.{said_by}
+use Rattle.urb_client.proofs.Common.{arith, said_by}
 use Rattle.urb_client.proofs.ResponseLaws.{is_found, is_only}
 use Rattle.urb_client.proofs.response_parser.parse_response.Goals as goal
 

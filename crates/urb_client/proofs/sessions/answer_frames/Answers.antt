@@ -1,10 +1,8 @@
-use Rattle.std.proofs.Common.{◌≡◌, arith, refl, rules}
-use Rattle.std.proofs.lemmas.Result.{err_from_is_err_and}
-use Rattle.urb_client.specs.Responses.{said_by}
-use Rattle.urb_client.specs.declared.sessions.TheConstants.{MOST_FRAMES}
-use Rattle.urb_client.proofs.SessionProgress.{one_more, breaks, going, not_answered, not_written}
-use Rattle.urb_client.proofs.SessionProgress.{no_frame_yet, too_many}
-use Rattle.urb_client.proofs.SessionProgress.{whole_met, whole_refused, broken_taken, unwritten}
+use Rattle.urb_client.proofs.Common.{MOST_FRAMES, arith, err_from_is_err_and, refl, rules, said_by}
+use Rattle.urb_client.proofs.Common.{◌≡◌}
+use Rattle.urb_client.proofs.SessionProgress.{breaks, broken_taken, going, no_frame_yet}
+use Rattle.urb_client.proofs.SessionProgress.{not_answered, not_written, one_more, too_many}
+use Rattle.urb_client.proofs.SessionProgress.{unwritten, whole_met, whole_refused}
 use Rattle.urb_client.proofs.sessions.answer_frames.Goals as goal
 
 pub returns-in-Broken-clause-ended : goal.returns-in-Broken-clause-ended

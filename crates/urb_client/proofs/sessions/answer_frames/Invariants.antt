@@ -1,5 +1,4 @@
-use Rattle.std.proofs.Common.{◌≡◌, length}
-use Rattle.urb_client.specs.declared.format.TheConstants.{LONGEST_REQUEST}
+use Rattle.urb_client.proofs.Common.{LONGEST_REQUEST, length, ◌≡◌}
 use Rattle.urb_client.proofs.SessionProgress.{GoingFor}
 use Rattle.urb_client.proofs.sessions.answer_frames.Given as goal
 

@@ -1,5 +1,4 @@
-use Rattle.std.proofs.Common.{length, take, ◌≡◌, ◌≤◌}
-use Rattle.urb_names.specs.Release.{part_of}
+use Rattle.urb_feed.proofs.Common.{length, part_of, take, ◌≡◌, ◌≤◌}
 use Rattle.urb_feed.proofs.delivered.delivered_of.Given as goal
 
 -- no name of the sender is after this place

@@ -1,8 +1,4 @@
-use Rattle.std.proofs.Common.{flat_map, suc, ◌-◌, ◌≡◌}
-use Rattle.urb_feed.specs.MissingNames.{needed_of}
-use Rattle.urb_group.specs.GroupViews.{Shows}
-use Rattle.urb_world.specs.World.{World}
-use Rattle.urb_names.specs.Nodes.{numbers_from}
+use Rattle.urb_feed.proofs.Common.{Shows, World, flat_map, needed_of, numbers_from, suc, ◌-◌, ◌≡◌}
 use Rattle.urb_feed.proofs.feed.make_needed.Given as goal
 
 -- what the target needs of the senders so far

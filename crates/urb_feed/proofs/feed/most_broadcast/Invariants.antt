@@ -1,8 +1,4 @@
-use Rattle.std.proofs.Common.{length, ◌-◌, ◌≡◌}
-use Rattle.urb_feed.specs.Feeds.{greatest}
-use Rattle.urb_group.specs.GroupViews.{Shows}
-use Rattle.urb_world.specs.World.{World}
-use Rattle.urb_names.specs.Nodes.{numbers_from}
+use Rattle.urb_feed.proofs.Common.{Shows, World, greatest, length, numbers_from, ◌-◌, ◌≡◌}
 use Rattle.urb_feed.proofs.feed.most_broadcast.Given as goal
 
 -- the greatest number of the nodes so far

@@ -1,7 +1,4 @@
-use Rattle.std.proofs.Common.{◌≤◌}
-use Rattle.urb_feed.specs.internal.SenderRows.{LacksNoneBelow}
-use Rattle.urb_group.specs.GroupViews.{Shows}
-use Rattle.urb_world.specs.World.{World}
+use Rattle.urb_feed.proofs.Common.{LacksNoneBelow, Shows, World, ◌≤◌}
 use Rattle.urb_feed.proofs.feed.skip_whole.Given as goal
 
 -- the node lacks no name of the senders so far

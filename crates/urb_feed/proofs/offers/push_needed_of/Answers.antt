@@ -1,13 +1,12 @@
-use Rattle.std.proofs.Common.{ap, arith, inl, inr, suc, sym, ◌++◌, ◌+◌, ◌-◌, ◌∙◌, ◌≡◌}
+use Rattle.urb_feed.proofs.Common.{ap, arith, inl, inr, name, needed, needed_of, offers, suc, sym}
+use Rattle.urb_feed.proofs.Common.{◌++◌, ◌+◌, ◌-◌, ◌∙◌, ◌≡◌}
 use Rattle.urb_feed.proofs.NumberedLists.{more, no_more}
 use Rattle.urb_feed.proofs.SkippedNumbers.{needs_all, needs_none}
-use Rattle.urb_feed.proofs.offers.push_needed_of.Goals as goal
 use Rattle.urb_feed.proofs.offers.push_needed_of.Goals.{else-delivered-seq}
 use Rattle.urb_feed.proofs.offers.push_needed_of.Goals.{else-delivered-seq-via-else-delivered-seq}
 use Rattle.urb_feed.proofs.offers.push_needed_of.Goals.{else-delivered-seq-via-then-delivered-seq+else-seq-own}
 use Rattle.urb_feed.proofs.offers.push_needed_of.Goals.{then-delivered-seq+then-seq-own+in_ok-push_offers}
-use Rattle.urb_feed.specs.MissingNames.{needed, needed_of, offers}
-use Rattle.urb_names.specs.Names.{name}
+use Rattle.urb_feed.proofs.offers.push_needed_of.Goals as goal
 
 pub loop-before-preserved : goal.loop-before-preserved
 loop-before-preserved g c w shows =

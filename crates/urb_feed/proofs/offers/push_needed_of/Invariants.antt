@@ -1,7 +1,4 @@
-use Rattle.std.proofs.Common.{suc, ◌++◌, ◌-◌, ◌≡◌}
-use Rattle.urb_feed.specs.MissingNames.{needed_of}
-use Rattle.urb_group.specs.GroupViews.{Shows}
-use Rattle.urb_world.specs.World.{World}
+use Rattle.urb_feed.proofs.Common.{Shows, World, needed_of, suc, ◌++◌, ◌-◌, ◌≡◌}
 use Rattle.urb_feed.proofs.offers.push_needed_of.Given as goal
 
 -- what the target needs of the numbers so far

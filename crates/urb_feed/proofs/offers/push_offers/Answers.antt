@@ -1,8 +1,7 @@
-use Rattle.std.proofs.Common.{ap, arith, flat_map, rules, ◌++◌, ◌+◌, ◌-◌, ◌∙◌, ◌≡◌}
+use Rattle.urb_feed.proofs.Common.{ap, arith, flat_map, numbers_from, offer, rules, ◌++◌, ◌+◌, ◌-◌}
+use Rattle.urb_feed.proofs.Common.{◌∙◌, ◌≡◌}
 use Rattle.urb_feed.proofs.NumberedLists.{more}
 use Rattle.urb_feed.proofs.offers.push_offers.Goals as goal
-use Rattle.urb_feed.specs.MissingNames.{offer}
-use Rattle.urb_names.specs.Nodes.{numbers_from}
 
 pub loop-number-preserved : goal.loop-number-preserved
 loop-number-preserved g c w shows =

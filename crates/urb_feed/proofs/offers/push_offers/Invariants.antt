@@ -1,8 +1,4 @@
-use Rattle.std.proofs.Common.{flat_map, ◌++◌, ◌-◌, ◌≡◌}
-use Rattle.urb_feed.specs.MissingNames.{offer}
-use Rattle.urb_group.specs.GroupViews.{Shows}
-use Rattle.urb_world.specs.World.{World}
-use Rattle.urb_names.specs.Nodes.{numbers_from}
+use Rattle.urb_feed.proofs.Common.{Shows, World, flat_map, numbers_from, offer, ◌++◌, ◌-◌, ◌≡◌}
 use Rattle.urb_feed.proofs.offers.push_offers.Given as goal
 
 -- the offers of the nodes so far

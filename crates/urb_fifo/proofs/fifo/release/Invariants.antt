@@ -1,6 +1,5 @@
-use Rattle.std.proofs.Common.{◌≡◌, ◌≤◌, ◌+◌, ◌-◌, ◌++◌, suc, map, vec_len, vec_capacity}
-use Rattle.urb_names.specs.Names.{name}
-use Rattle.urb_names.specs.Nodes.{numbers_from}
+use Rattle.urb_fifo.proofs.Common.{map, name, numbers_from, suc, vec_capacity, vec_len, ◌++◌, ◌+◌}
+use Rattle.urb_fifo.proofs.Common.{◌-◌, ◌≡◌, ◌≤◌}
 use Rattle.urb_fifo.proofs.fifo.release.Given as goal
 
 -- the names released so far, and those still to release

@@ -1,8 +1,7 @@
-use Rattle.std.proofs.Common.{rules, arith, ap, sym, subst, ◌∙◌, Err, length, take, drop, ◌≡◌, ◌+◌}
-use Rattle.std.proofs.Common.{◌≤◌, ◌<◌, ◌++◌, ◌∷◌, slice_index_or}
+use Rattle.urb_folder.proofs.Common.{All, Err, IsOpen, ap, arith, drop, length, rules}
+use Rattle.urb_folder.proofs.Common.{slice_index_or, subst, sym, take, ◌++◌, ◌+◌, ◌<◌, ◌∙◌, ◌∷◌}
+use Rattle.urb_folder.proofs.Common.{◌≡◌, ◌≤◌}
 use Rattle.std.proofs.lemmas.List.{drop_more, take-append-drop, take_all}
-use Rattle.std.specs.List.{All}
-use Rattle.urb_folder.specs.ParallelOutcomes.{IsOpen}
 use Rattle.urb_folder.proofs.first_fault.find_first_fault.Goals as goal
 
 pub returns-in-Err : goal.returns-in-Err

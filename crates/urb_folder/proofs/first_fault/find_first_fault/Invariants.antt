@@ -1,6 +1,4 @@
-use Rattle.std.proofs.Common.{take}
-use Rattle.std.specs.List.{All}
-use Rattle.urb_folder.specs.ParallelOutcomes.{IsOpen}
+use Rattle.urb_folder.proofs.Common.{All, IsOpen, take}
 use Rattle.urb_folder.proofs.first_fault.find_first_fault.Given as goal
 
 -- the outcomes so far are successes

@@ -1,7 +1,6 @@
-use Rattle.std.proofs.Common.{rules, arith, ap, subst, ◌∙◌, ◌≡◌, ◌++◌, ◌∷◌, [], Ok, map, suc}
+use Rattle.urb_folder.proofs.Common.{All, IsOpen, Ok, [], ap, arith, map, rules, subst, suc, ◌++◌}
+use Rattle.urb_folder.proofs.Common.{◌∙◌, ◌∷◌, ◌≡◌}
 use Rattle.std.proofs.lemmas.List.{append_assoc, map-append}
-use Rattle.std.specs.List.{All}
-use Rattle.urb_folder.specs.ParallelOutcomes.{IsOpen}
 use Rattle.urb_folder.proofs.first_fault.unwrap_all.Goals as goal
 
 pub loop-outcome-preserved : goal.loop-outcome-preserved

@@ -1,6 +1,5 @@
-use Rattle.std.proofs.Common.{◌≡◌, ◌+◌, ◌++◌, ◌≤◌, Ok, length, map, vec_len, vec_capacity}
-use Rattle.std.specs.List.{All}
-use Rattle.urb_folder.specs.ParallelOutcomes.{IsOpen}
+use Rattle.urb_folder.proofs.Common.{All, IsOpen, Ok, length, map, vec_capacity, vec_len, ◌++◌, ◌+◌}
+use Rattle.urb_folder.proofs.Common.{◌≡◌, ◌≤◌}
 use Rattle.urb_folder.proofs.first_fault.unwrap_all.Given as goal
 
 -- those unwrapped so far come before the others, which are successes too, and there is room for all

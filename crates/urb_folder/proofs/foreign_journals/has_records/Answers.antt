@@ -1,9 +1,7 @@
-use Rattle.std.proofs.Common.{length, nat_lt, refl, subst, ◌≡◌, Bool, List, ℕ}
+use Rattle.urb_folder.proofs.Common.{Bool, Entry, Image, IsFoundIn, List, length, nat_lt, refl}
+use Rattle.urb_folder.proofs.Common.{subst, ℕ, ◌≡◌}
 use Rattle.sqlite_trees.specs.View.{doubt}
 use Rattle.sqlite_pool.specs.Pool.{state}
-use Rattle.urb_stable.specs.Entries.{Entry}
-use Rattle.sqlite_wal.specs.Recovery.{Image}
-use Rattle.urb_sqlite.specs.FoundJournals.{IsFoundIn}
 use Rattle.urb_folder.specs.internal.ForeignJournals.{TellsRecords}
 use Rattle.urb_folder.proofs.RecordCounts.{some}
 use Rattle.urb_folder.proofs.foreign_journals.has_records.Goals as goal

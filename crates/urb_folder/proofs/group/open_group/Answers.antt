@@ -1,9 +1,8 @@
-use Rattle.std.proofs.Common.{Err, map, subst, sym, ◌∙◌}
+use Rattle.urb_folder.proofs.Common.{Err, RetrievesTogether, map, subst, sym, ◌∙◌}
 use Rattle.std.proofs.lemmas.List.{length-map}
 use Rattle.urb_group.proofs.stops.OpenedClusters.{given-count}
 use Rattle.urb_folder.proofs.ContinuedGroups.{goes-on-together, leaves-together, opened-together}
 use Rattle.urb_folder.proofs.ContinuedGroups.{secured-together, stocked-together, unopened-together}
-use Rattle.urb_folder.specs.internal.RetrievedImages.{RetrievesTogether}
 use Rattle.urb_folder.proofs.group.open_group.Goals as goal
 
 pub open-requires : goal.open-requires

@@ -1,7 +1,5 @@
-use Rattle.std.proofs.Common.{rules, subst, ◌≡◌, length, slice_index_or}
-use Rattle.urb_group.specs.StoreQuestions.{Gives}
+use Rattle.urb_folder.proofs.Common.{Gives, length, list_in, rules, slice_index_or, subst, ◌≡◌}
 use Rattle.urb_folder.proofs.AnswerLists.{all_answered}
-use Rattle.urb_stable.specs.StableStorage.{list_in}
 use Rattle.urb_folder.proofs.images.ask_all.Goals as goal
 
 pub returns : goal.returns

@@ -1,8 +1,6 @@
-use Rattle.std.proofs.Common.{Ok, ap, inl, inr, map, rules, subst, sym, ◌∙◌, ◌≡◌}
-use Rattle.urb_stable.specs.StableStorage.{refusal_of}
-use Rattle.urb_group.proofs.stops.AskedStores.{written-back}
+use Rattle.urb_folder.proofs.Common.{AllAnswer, Ok, ap, inl, inr, map, refusal_of, rules, subst}
+use Rattle.urb_folder.proofs.Common.{sym, written-back, ◌∙◌, ◌≡◌}
 use Rattle.urb_folder.proofs.AnswerLists.{all_give}
-use Rattle.urb_folder.specs.AskedStores.{AllAnswer}
 use Rattle.urb_folder.proofs.images.retrieve_images.Goals as goal
 
 pub returns-in-Ok-collect_opened-clause-gives : goal.returns-in-Ok-collect_opened-clause-gives

@@ -1,5 +1,4 @@
-use Rattle.std.proofs.Common.{subst}
-use Rattle.urb_folder.specs.internal.JournalOutcomes.{OpensIn, OpensOf}
+use Rattle.urb_folder.proofs.Common.{OpensIn, OpensOf, subst}
 use Rattle.urb_folder.proofs.PlacesInOrder.{claim_at, outcome_of}
 use Rattle.urb_folder.proofs.node_journal.find.Goals as goal
 

@@ -1,5 +1,4 @@
-use Rattle.std.proofs.Common.{subst}
-use Rattle.urb_folder.specs.internal.JournalOutcomes.{OpensOf}
+use Rattle.urb_folder.proofs.Common.{OpensOf, subst}
 use Rattle.urb_folder.proofs.PlacesInOrder.{outcome_of}
 use Rattle.urb_folder.proofs.node_journal.make_next.Goals as goal
 

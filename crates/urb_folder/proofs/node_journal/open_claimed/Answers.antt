@@ -1,7 +1,6 @@
-use Rattle.std.proofs.Common.{subst, sym}
+use Rattle.urb_folder.proofs.Common.{IsFoundIn, subst, sym}
 use Rattle.sqlite.specs.Files.{file_state}
 use Rattle.sqlite.specs.State.{HasCleanDisk}
-use Rattle.urb_sqlite.specs.FoundJournals.{IsFoundIn}
 use Rattle.urb_sqlite.specs.OpenJournal.{IsHonestJournal}
 use Rattle.urb_sqlite.specs.RowReadings.{records_of}
 use Rattle.urb_folder.proofs.node_journal.open_claimed.Goals as goal

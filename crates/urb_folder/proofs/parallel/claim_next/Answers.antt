@@ -1,6 +1,5 @@
-use Rattle.std.proofs.Common.{None, Some, refl}
+use Rattle.urb_folder.proofs.Common.{None, OpensIn, Some, refl}
 use Rattle.urb_stable.specs.declared.stable.StoreFault.TheVariants.{Device}
-use Rattle.urb_folder.specs.internal.JournalOutcomes.{OpensIn}
 use Rattle.urb_folder.proofs.PlacesInOrder.{claimed}
 use Rattle.urb_folder.proofs.parallel.claim_next.Goals as goal
 

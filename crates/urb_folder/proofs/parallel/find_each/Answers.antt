@@ -1,8 +1,5 @@
+use Rattle.urb_folder.proofs.Common.{IsFoundAt, OpensIn, length, rules, subst, sym, ◌<◌, ◌∙◌, ◌≡◌}
 use denote.Param.Send.{param_send}
-use Rattle.std.proofs.Common.{length, subst, sym, ◌<◌, ◌∙◌, ◌≡◌}
-use Rattle.std.proofs.Common.{rules}
-use Rattle.urb_folder.specs.internal.JournalOutcomes.{OpensIn}
-use Rattle.urb_folder.specs.internal.OpenedPlaces.{IsFoundAt}
 use Rattle.urb_folder.proofs.PlacesInOrder.{get_there, none_there, read_there}
 use Rattle.urb_folder.proofs.SendableFiles.{found_send}
 use Rattle.urb_folder.proofs.parallel.find_each.Goals as goal

@@ -1,7 +1,6 @@
-use Rattle.std.proofs.Common.{Some, ap, arith, length, slice_get, subst, sym, ◌∙◌, ◌≡◌}
-use Rattle.urb_group.proofs.stops.AskedStores.{written-back}
-use Rattle.urb_folder.specs.internal.JournalOutcomes.{OpensIn}
-use Rattle.urb_folder.specs.internal.OpenedPlaces.{AreFound, FailsAfter}
+use Rattle.urb_folder.proofs.Common.{AreFound, OpensIn, Some, ap, arith, length, slice_get, subst}
+use Rattle.urb_folder.proofs.Common.{sym, written-back, ◌∙◌, ◌≡◌}
+use Rattle.urb_folder.specs.internal.OpenedPlaces.{FailsAfter}
 use Rattle.urb_folder.proofs.parallel.open_all.Goals as goal
 
 pub find_each-requires-after_bounds : goal.find_each-requires-after_bounds

@@ -1,10 +1,9 @@
-use Rattle.std.proofs.Common.{Ok, Some, le_refl, rules, length, slice_get, subst, sym}
-use Rattle.std.proofs.Common.{vec_capacity, vec_len, ◌+◌, ◌<◌, ◌∙◌, ◌≡◌, ◌≤◌}
+use Rattle.urb_folder.proofs.Common.{AreOpened, IsFoundAt, Ok, OpensIn, Some, le_refl, length}
+use Rattle.urb_folder.proofs.Common.{rules, slice_get, subst, sym, vec_capacity, vec_len, ◌+◌, ◌<◌}
+use Rattle.urb_folder.proofs.Common.{◌∙◌, ◌≡◌, ◌≤◌}
 use Rattle.std.proofs.lemmas.Option.{slice_get_read}
-use Rattle.urb_folder.specs.internal.JournalOutcomes.{OpensIn}
-use Rattle.urb_folder.specs.internal.OpenedPlaces.{AreOpened, IsFoundAt}
-use Rattle.urb_folder.proofs.PlacesInOrder.{before, earlier, ended, has_room, none_yet}
-use Rattle.urb_folder.proofs.PlacesInOrder.{one_more, unset}
+use Rattle.urb_folder.proofs.PlacesInOrder.{before, earlier, ended, has_room, none_yet, one_more}
+use Rattle.urb_folder.proofs.PlacesInOrder.{unset}
 use Rattle.urb_folder.proofs.parallel.open_in_order.Goals as goal
 
 pub loop-place-init : goal.loop-place-init

@@ -1,6 +1,5 @@
-use Rattle.std.proofs.Common.{Some, length, slice_get, vec_capacity, ℕ, ◌≡◌, ◌≤◌}
-use Rattle.urb_folder.specs.internal.JournalOutcomes.{OpensIn}
-use Rattle.urb_folder.specs.internal.OpenedPlaces.{AreOpened, IsFoundAt}
+use Rattle.urb_folder.proofs.Common.{AreOpened, IsFoundAt, OpensIn, Some, length, slice_get}
+use Rattle.urb_folder.proofs.Common.{vec_capacity, ℕ, ◌≡◌, ◌≤◌}
 use Rattle.urb_folder.proofs.parallel.open_in_order.Given as goal
 
 -- the places so far are open, what was found at the others is still there, and there is room for

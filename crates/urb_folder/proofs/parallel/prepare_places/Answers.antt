@@ -1,5 +1,4 @@
-use Rattle.std.proofs.Common.{Some, arith, inl, slice_get, subst, sym, ◌∙◌, ◌≡◌}
-use Rattle.urb_folder.specs.internal.JournalOutcomes.{OpensIn}
+use Rattle.urb_folder.proofs.Common.{OpensIn, Some, arith, inl, slice_get, subst, sym, ◌∙◌, ◌≡◌}
 use Rattle.urb_folder.proofs.PlacesInOrder.{found_more}
 use Rattle.urb_folder.proofs.parallel.prepare_places.Goals as goal
 

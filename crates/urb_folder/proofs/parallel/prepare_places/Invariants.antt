@@ -1,6 +1,4 @@
-use Rattle.std.proofs.Common.{◌≡◌, ◌≤◌, vec_capacity, vec_len}
-use Rattle.urb_folder.specs.internal.JournalOutcomes.{OpensIn}
-use Rattle.urb_folder.specs.internal.OpenedPlaces.{AreFound, IsGiven}
+use Rattle.urb_folder.proofs.Common.{AreFound, IsGiven, OpensIn, vec_capacity, vec_len, ◌≡◌, ◌≤◌}
 use Rattle.urb_folder.proofs.parallel.prepare_places.Given as goal
 
 -- the list has the claim of its node at each place so far, and room for all `count` places

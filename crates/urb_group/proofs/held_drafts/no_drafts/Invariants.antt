@@ -1,5 +1,4 @@
-use Rattle.std.proofs.Common.{None, ◌≡◌}
-use Rattle.std.specs.Prelude.{replicate}
+use Rattle.urb_group.proofs.Common.{None, replicate, ◌≡◌}
 use Rattle.urb_group.proofs.held_drafts.no_drafts.Given as goal
 
 abbrev pub invariant-loop : goal.invariant-loop

@@ -1,7 +1,5 @@
-use Rattle.urb_world.proofs.safety.AcceptedSubmits.{accepted-stored}
+use Rattle.urb_group.proofs.Common.{accepted-stored, one_message, safe, survives}
 use Rattle.urb_group.proofs.shown.AgreeingWorlds.{sound-kept}
-use Rattle.urb_world.proofs.safety.SafeWorlds.{one_message, safe}
-use Rattle.urb_world.proofs.stops.StoppedWorlds.{survives}
 use Rattle.urb_group.proofs.laws.every_sound_group_is_safe.Goals as goal
 
 pub returns-clause-safe : goal.returns-clause-safe

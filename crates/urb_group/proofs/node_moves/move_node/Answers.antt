@@ -1,6 +1,4 @@
-use Rattle.std.proofs.Common.{ap, refl, ◌∙◌}
-use Rattle.std.proofs.lemmas.Option.{slice_get_read}
-use Rattle.std.specs.List.{insert}
+use Rattle.urb_group.proofs.Common.{ap, insert, refl, slice_get_read, ◌∙◌}
 use Rattle.urb_group.proofs.shown.ReplacedElements.{insert_removed}
 use Rattle.urb_group.proofs.node_moves.move_node.Goals as goal
 

@@ -1,6 +1,4 @@
-use Rattle.std.proofs.Common.{List, ap, ◌∙◌}
-use Rattle.urb_stable.specs.Entries.{Entry}
-use Rattle.urb_stable.specs.Fitting.{first_misfit}
+use Rattle.urb_group.proofs.Common.{Entry, List, ap, first_misfit, ◌∙◌}
 use Rattle.urb_stable.specs.Images.{image_of}
 use Rattle.urb_group.proofs.opening.misfit_of.Goals as goal
 

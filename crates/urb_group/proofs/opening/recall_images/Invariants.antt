@@ -1,6 +1,4 @@
-use Rattle.std.proofs.Common.{map, take}
-use Rattle.std.specs.List.{All}
-use Rattle.urb_stable.specs.Entries.{IsEntry}
+use Rattle.urb_group.proofs.Common.{All, IsEntry, map, take}
 use Rattle.urb_group.proofs.opening.recall_images.Given as goal
 
 -- the records of the images so far are within their limits

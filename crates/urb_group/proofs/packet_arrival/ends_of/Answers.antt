@@ -1,6 +1,5 @@
-use Rattle.std.proofs.Common.{ap, eqb-true, subst, sym, ℕ, ◌<◌, ◌==◌, ◌∙◌, ◌≡◌}
-use Rattle.std.proofs.lemmas.Bool.{not-false, not-true}
-use Rattle.urb_names.specs.LabelsAndContents.{Label}
+use Rattle.urb_group.proofs.Common.{Label, ap, eqb-true, not-false, not-true, subst, sym, ℕ, ◌<◌}
+use Rattle.urb_group.proofs.Common.{◌==◌, ◌∙◌, ◌≡◌}
 use Rattle.urb_group.proofs.moves.PacketEnds.{ends_are, not_node, not_sender, not_source}
 use Rattle.urb_group.proofs.moves.PacketEnds.{not_target}
 use Rattle.urb_group.proofs.packet_arrival.ends_of.Goals as goal

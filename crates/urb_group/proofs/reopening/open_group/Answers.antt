@@ -1,5 +1,4 @@
-use Rattle.std.proofs.Common.{map, sym, ◌∙◌}
-use Rattle.std.proofs.lemmas.List.{length-map}
+use Rattle.urb_group.proofs.Common.{length-map, map, sym, ◌∙◌}
 use Rattle.urb_group.proofs.stops.OpenedClusters.{given-count, given-opens}
 use Rattle.urb_group.proofs.reopening.open_group.Goals as goal
 

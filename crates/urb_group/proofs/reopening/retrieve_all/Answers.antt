@@ -1,9 +1,8 @@
-use Rattle.std.proofs.Common.{Err, Ok, [], add-one, ap, arith, inl, length, map, rules, subst, sym}
-use Rattle.std.proofs.Common.{ℕ, ◌+◌, ◌++◌, ◌<◌, ◌∙◌, ◌∷◌, ◌≡◌}
+use Rattle.urb_group.proofs.Common.{Err, Gives, Ok, [], add-one, ap, arith, inl, length, map, rules}
+use Rattle.urb_group.proofs.Common.{slice_index_or, slice_set, subst, sym, ℕ, ◌++◌, ◌+◌, ◌<◌, ◌∙◌}
+use Rattle.urb_group.proofs.Common.{◌∷◌, ◌≡◌}
 use Rattle.std.proofs.lemmas.List.{map_push}
-use Rattle.std.specs.Prelude.{slice_index_or, slice_set}
 use Rattle.urb_group.proofs.stops.AskedStores.{HasAsked, next-asked, next-fails, none-asked}
-use Rattle.urb_group.specs.StoreQuestions.{Gives}
 use Rattle.urb_group.proofs.reopening.retrieve_all.Goals as goal
 
 pub loop-store-init : goal.loop-store-init

@@ -1,7 +1,5 @@
-use Rattle.std.proofs.Common.{IfOk, [], subst, sym, ◌∙◌, ◌≡◌}
-use Rattle.urb_node.specs.Part.{opened_node}
-use Rattle.urb_node.specs.NodeMemories.{ShowsReady}
-use Rattle.urb_stable.specs.Fitting.{KeepsOwn}
+use Rattle.urb_group.proofs.Common.{IfOk, KeepsOwn, ShowsReady, [], opened_node, subst, sym, ◌∙◌}
+use Rattle.urb_group.proofs.Common.{◌≡◌}
 use Rattle.urb_group.proofs.stops.AskedStores.{written-back}
 use Rattle.urb_group.proofs.shared_payloads.open_beside.Goals as goal
 

@@ -1,11 +1,8 @@
-use Rattle.std.proofs.Common.{Err, Some, ap, length, subst, ℕ, ◌+◌, ◌-◌, ◌^◌, ◌∙◌, ◌≡◌, ◌≤◌, Option}
+use Rattle.urb_group.proofs.Common.{Breaks, Entry, Err, Failure, Option, Some, ap, is_out_of_place}
+use Rattle.urb_group.proofs.Common.{length, subst, without_memory, ℕ, ◌+◌, ◌-◌, ◌^◌, ◌∙◌, ◌≡◌, ◌≤◌}
 use Rattle.std.specs.Option.{OnSome}
 use Rattle.urb_group.proofs.calls.ArmedStores.{breaks-so}
-use Rattle.urb_group.specs.ClusterCalls.{Breaks}
-use Rattle.urb_stable.specs.Entries.{Entry}
-use Rattle.urb_stable.specs.MemoryStores.{Memory, without_memory}
-use Rattle.urb_stable.specs.StableStorage.{is_out_of_place}
-use Rattle.urb_stable.specs.declared.memory.Failure.{Failure}
+use Rattle.urb_stable.specs.MemoryStores.{Memory}
 use Rattle.urb_stable.specs.declared.stable.StoreFault.TheVariants as fault
 use Rattle.urb_group.proofs.stores.break_store.Goals as goal
 

@@ -1,9 +1,6 @@
-use Rattle.std.proofs.Common.{rules, ◌≡◌}
+use Rattle.urb_group.proofs.Common.{Commit, Steps, Stored, rules, ◌≡◌}
 use Rattle.urb_group.proofs.calls.HeldDrafts.{steps-calm}
 use Rattle.urb_group.proofs.calls.StoreAnswers.{commit-taken}
-use Rattle.urb_group.specs.GroupCalls.{Steps}
-use Rattle.urb_world.specs.Step.{Commit}
-use Rattle.urb_node.specs.Replies.{Stored}
 use Rattle.urb_group.proofs.stores.commit_draft.Goals as goal
 
 pub unwrap-requires : goal.unwrap-requires

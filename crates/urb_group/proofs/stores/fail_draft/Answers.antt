@@ -1,9 +1,6 @@
-use Rattle.std.proofs.Common.{rules, ◌≡◌}
+use Rattle.urb_group.proofs.Common.{Fail, Steps, WentDown, rules, ◌≡◌}
 use Rattle.urb_group.proofs.calls.HeldDrafts.{steps-calm}
 use Rattle.urb_group.proofs.calls.StoreAnswers.{fail-taken}
-use Rattle.urb_group.specs.GroupCalls.{Steps}
-use Rattle.urb_world.specs.Step.{Fail}
-use Rattle.urb_node.specs.Replies.{WentDown}
 use Rattle.urb_group.proofs.stores.fail_draft.Goals as goal
 
 pub unwrap-requires : goal.unwrap-requires

@@ -1,8 +1,5 @@
-use Rattle.std.proofs.Common.{rules, ◌≡◌}
+use Rattle.urb_group.proofs.Common.{Restart, Steps, Up, rules, ◌≡◌}
 use Rattle.urb_group.proofs.calls.HeldDrafts.{steps-calm}
-use Rattle.urb_group.specs.GroupCalls.{Steps}
-use Rattle.urb_world.specs.Step.{Restart}
-use Rattle.urb_node.specs.Replies.{Up}
 use Rattle.urb_group.proofs.stores.restart_with.Goals as goal
 
 pub returns-in-Ok-clause-free : goal.returns-in-Ok-clause-free

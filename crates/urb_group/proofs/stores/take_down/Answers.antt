@@ -1,10 +1,7 @@
-use Rattle.std.proofs.Common.{None, rules, subst, sym, ℕ, ◌≡◌}
+use Rattle.urb_group.proofs.Common.{Crash, Fail, None, Steps, WentDown, held_draft, rules, subst}
+use Rattle.urb_group.proofs.Common.{sym, ℕ, ◌≡◌}
 use Rattle.urb_group.proofs.calls.HeldDrafts.{steps-calm}
 use Rattle.urb_group.proofs.calls.StoreAnswers.{crash-as-fail, crash-taken}
-use Rattle.urb_group.specs.GroupCalls.{Steps}
-use Rattle.urb_group.specs.GroupStores.{held_draft}
-use Rattle.urb_world.specs.Step.{Crash, Fail}
-use Rattle.urb_node.specs.Replies.{WentDown}
 use Rattle.urb_group.proofs.stores.take_down.Goals as goal
 
 pub unwrap-requires : goal.unwrap-requires

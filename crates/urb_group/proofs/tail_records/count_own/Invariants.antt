@@ -1,7 +1,4 @@
-use Rattle.std.proofs.Common.{drop, length, ◌+◌, ◌≡◌, ◌≤◌}
-use Rattle.urb_names.specs.Pairs.{own}
-use Rattle.urb_stable.specs.Records.{pend}
-use Rattle.urb_group.specs.internal.TailChecks.{of_client}
+use Rattle.urb_group.proofs.Common.{drop, length, of_client, own, pend, ◌+◌, ◌≡◌, ◌≤◌}
 use Rattle.urb_group.proofs.tail_records.count_own.Given as goal
 
 -- what was counted, and what is left, are all

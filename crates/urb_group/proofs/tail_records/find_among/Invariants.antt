@@ -1,6 +1,4 @@
-use Rattle.std.proofs.Common.{drop, ◌≡◌}
-use Rattle.urb_names.specs.Pairs.{message_of}
-use Rattle.urb_stable.specs.Records.{pend}
+use Rattle.urb_group.proofs.Common.{drop, message_of, pend, ◌≡◌}
 use Rattle.urb_group.proofs.tail_records.find_among.Given as goal
 
 -- the records that are left find what all of them do

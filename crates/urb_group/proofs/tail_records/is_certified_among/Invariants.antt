@@ -1,6 +1,4 @@
-use Rattle.std.proofs.Common.{drop, ◌≡◌}
-use Rattle.urb_names.specs.Names.{has_name}
-use Rattle.urb_stable.specs.Records.{cert}
+use Rattle.urb_group.proofs.Common.{cert, drop, has_name, ◌≡◌}
 use Rattle.urb_group.proofs.tail_records.is_certified_among.Given as goal
 
 -- the records that are left certify the name if all of them do

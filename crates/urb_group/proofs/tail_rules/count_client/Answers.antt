@@ -1,5 +1,4 @@
-use Rattle.std.proofs.Common.{arith, suc, ℕ, ◌-◌, ◌≡◌}
-use Rattle.urb_group.specs.internal.TailChecks.{of_client}
+use Rattle.urb_group.proofs.Common.{arith, of_client, suc, ℕ, ◌-◌, ◌≡◌}
 use Rattle.urb_group.proofs.tail_rules.count_client.Goals as goal
 
 pub returns : goal.returns

@@ -1,6 +1,4 @@
-use Rattle.std.proofs.Common.{arith, count_by, subst, suc, ℕ, ◌≡◌}
-use Rattle.urb_names.specs.Nodes.{numbers_from}
-use Rattle.urb_group.specs.internal.TailChecks.{would_hold}
+use Rattle.urb_group.proofs.Common.{arith, count_by, numbers_from, subst, suc, would_hold, ℕ, ◌≡◌}
 use Rattle.urb_group.proofs.tails.TailHolders.{counted-more}
 use Rattle.urb_group.proofs.tail_rules.count_holders.Goals as goal
 

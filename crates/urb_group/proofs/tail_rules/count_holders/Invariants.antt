@@ -1,9 +1,5 @@
-use Rattle.std.proofs.Common.{count_by, suc, ◌≡◌, ◌≤◌}
-use Rattle.urb_names.specs.Nodes.{numbers_from}
-use Rattle.urb_group.specs.GroupViews.{Shows}
-use Rattle.urb_group.specs.PlaceViews.{shown}
-use Rattle.urb_world.specs.World.{World}
-use Rattle.urb_group.specs.internal.TailChecks.{would_hold}
+use Rattle.urb_group.proofs.Common.{Shows, World, count_by, numbers_from, shown, suc, would_hold}
+use Rattle.urb_group.proofs.Common.{◌≡◌, ◌≤◌}
 use Rattle.urb_group.proofs.tail_rules.count_holders.Given as goal
 
 -- the holders among the nodes so far

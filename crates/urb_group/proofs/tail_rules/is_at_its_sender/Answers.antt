@@ -1,5 +1,4 @@
-use Rattle.std.proofs.Common.{ap, sym, ◌==◌, ◌∙◌}
-use Rattle.urb_names.specs.LabelsAndContents.{Label}
+use Rattle.urb_group.proofs.Common.{Label, ap, sym, ◌==◌, ◌∙◌}
 use Rattle.urb_group.proofs.tails.TailAnswers.{other-at-sender, own-at-sender}
 use Rattle.urb_group.proofs.tail_rules.is_at_its_sender.Goals as goal
 

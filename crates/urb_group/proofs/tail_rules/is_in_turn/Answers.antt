@@ -1,6 +1,4 @@
-use Rattle.std.proofs.Common.{ap, not, sym, ◌==◌, ◌∙◌}
-use Rattle.std.proofs.lemmas.Bool.{not-false, not-true}
-use Rattle.urb_names.specs.LabelsAndContents.{Label}
+use Rattle.urb_group.proofs.Common.{Label, ap, not, not-false, not-true, sym, ◌==◌, ◌∙◌}
 use Rattle.urb_group.proofs.tails.TailAnswers.{turn-of-other, turn-of-own}
 use Rattle.urb_group.proofs.tail_rules.is_in_turn.Goals as goal
 

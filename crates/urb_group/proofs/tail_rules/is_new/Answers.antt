@@ -1,9 +1,8 @@
-use Rattle.std.proofs.Common.{ap, sym, ◌∙◌}
-use Rattle.urb_stable.specs.Fitting.{in_range}
+use Rattle.urb_group.proofs.Common.{ap, in_range, sym, ◌∙◌}
 use Rattle.urb_group.proofs.tails.TailAnswers.{certificate-early, certificate-new, not-in-range}
 use Rattle.urb_group.proofs.tails.TailAnswers.{pair-new}
-use Rattle.urb_group.proofs.tail_rules.is_new.Goals as goal
 use Rattle.urb_names.proofs.TruthValues.{mapped_some}
+use Rattle.urb_group.proofs.tail_rules.is_new.Goals as goal
 
 pub returns-then-not-is_in_range : goal.returns-then-not-is_in_range
 returns-then-not-is_in_range g c =

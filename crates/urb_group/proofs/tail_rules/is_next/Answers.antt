@@ -1,5 +1,4 @@
-use Rattle.std.proofs.Common.{ap}
-use Rattle.urb_names.specs.LabelsAndContents.{Label}
+use Rattle.urb_group.proofs.Common.{Label, ap}
 use Rattle.urb_group.proofs.tails.TailAnswers.{next-is, next-not}
 use Rattle.urb_group.proofs.tail_rules.is_next.Goals as goal
 

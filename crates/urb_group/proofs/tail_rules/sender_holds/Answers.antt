@@ -1,5 +1,4 @@
-use Rattle.std.proofs.Common.{ap, arith, subst, sym, ℕ, ◌<◌, ◌∙◌}
-use Rattle.urb_names.specs.LabelsAndContents.{Label}
+use Rattle.urb_group.proofs.Common.{Label, ap, arith, subst, sym, ℕ, ◌<◌, ◌∙◌}
 use Rattle.urb_group.proofs.tails.TailHolders.{sender-holds, sender-missing}
 use Rattle.urb_group.proofs.tail_rules.sender_holds.Goals as goal
 

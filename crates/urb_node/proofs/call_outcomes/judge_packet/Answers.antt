@@ -1,13 +1,8 @@
-use Rattle.std.proofs.Common.{rules, ◌≡◌, None, not, sym, ap, ap₂, ◌∙◌, subst}
-use Rattle.urb_names.specs.LabelsAndContents.{Label, Content}
-use Rattle.urb_names.specs.Names.{has_name}
-use Rattle.urb_names.specs.Pairs.{message_of}
-use Rattle.urb_node.specs.internal.OutcomeSteps.{Finds}
-use Rattle.urb_node.specs.LayerFields.{memory_of}
-use Rattle.urb_node.specs.RecordAdmission.{IsNext}
-use Rattle.urb_node.specs.internal.Outcomes.{Outcome, counted_outcome}
-use Rattle.urb_node.proofs.HoldableDrafts.{arrived-next, arrive-answers, arrive-counts, pending_entry}
-use Rattle.urb_node.proofs.HoldableDrafts.{some-pending}
+use Rattle.urb_node.proofs.Common.{Content, Finds, IsNext, Label, None, Outcome, ap, ap₂}
+use Rattle.urb_node.proofs.Common.{counted_outcome, has_name, memory_of, message_of, not, rules}
+use Rattle.urb_node.proofs.Common.{subst, sym, ◌∙◌, ◌≡◌}
+use Rattle.urb_node.proofs.HoldableDrafts.{arrive-answers, arrive-counts, arrived-next}
+use Rattle.urb_node.proofs.HoldableDrafts.{pending_entry, some-pending}
 use Rattle.urb_node.proofs.call_outcomes.judge_packet.Goals as goal
 
 pub make_wanted-requires-clause-next : goal.make_wanted-requires-clause-next

@@ -1,12 +1,6 @@
-use Rattle.std.proofs.Common.{◌<◌, ◌≤◌, ◌+◌, length, sym, ap, ◌∙◌, subst, arith}
-use Rattle.urb_names.specs.LabelsAndContents.{Content}
-use Rattle.urb_names.specs.Names.{name}
-use Rattle.urb_names.specs.Nodes.{is_majority}
-use Rattle.urb_names.specs.Pairs.{own}
-use Rattle.urb_names.specs.declared.limits.TheConstants.{MAX_PAYLOAD}
-use Rattle.urb_node.specs.LayerFields.{memory_of}
-use Rattle.urb_node.specs.RecordAdmission.{IsNext}
-use Rattle.urb_node.proofs.HoldableDrafts.{pending_entry, submitted-next, submit-told}
+use Rattle.urb_node.proofs.Common.{Content, IsNext, MAX_PAYLOAD, ap, arith, is_majority, length}
+use Rattle.urb_node.proofs.Common.{memory_of, name, own, subst, sym, ◌+◌, ◌<◌, ◌∙◌, ◌≤◌}
+use Rattle.urb_node.proofs.HoldableDrafts.{pending_entry, submit-told, submitted-next}
 use Rattle.urb_node.proofs.call_outcomes.judge_submit.Goals as goal
 
 pub make_wanted-requires-clause-next : goal.make_wanted-requires-clause-next

@@ -1,10 +1,5 @@
-use Rattle.std.proofs.Common.{Option, ap, refl, subst, sym, ℕ, ◌∙◌, ◌≤◌}
-use Rattle.std.specs.Option.{ForSome}
-use Rattle.urb_names.specs.CarriedPackets.{to_others}
-use Rattle.urb_names.specs.LabelsAndContents.{Content}
-use Rattle.urb_node.specs.NodeMemories.{Memory}
-use Rattle.urb_stable.specs.Entries.{Entry}
-use Rattle.urb_node.specs.internal.HeldLayers.{HasRoom, IsDrafted, IsNextHeld}
+use Rattle.urb_node.proofs.Common.{Content, Entry, ForSome, HasRoom, IsDrafted, IsNextHeld, Memory}
+use Rattle.urb_node.proofs.Common.{Option, ap, refl, subst, sym, to_others, ℕ, ◌∙◌, ◌≤◌}
 use Rattle.urb_node.proofs.HoldableDrafts.{made, pending_entry}
 use Rattle.urb_node.proofs.call_outcomes.make_wanted.Goals as goal
 

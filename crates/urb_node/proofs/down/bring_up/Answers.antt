@@ -1,5 +1,4 @@
-use Rattle.std.proofs.Common.{ap}
-use Rattle.urb_stubborn.specs.Resends.{Resending}
+use Rattle.urb_node.proofs.Common.{Resending, ap}
 use Rattle.urb_node.proofs.OutcomeResults.{resend-kept}
 use Rattle.urb_node.proofs.down.bring_up.Goals as goal
 

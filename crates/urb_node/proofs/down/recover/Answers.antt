@@ -1,14 +1,10 @@
-use Rattle.std.proofs.Common.{rules, ◌≡◌, ◌∙◌, [], None, ap, ap₂, Err, Ok, subst, sym}
-use Rattle.urb_names.specs.declared.refusal.Refusal.TheVariants as refusal
-use Rattle.urb_node.specs.LayerFields.{memory_of}
-use Rattle.urb_node.specs.internal.ImageVerdicts.{IsVerdict}
-use Rattle.urb_node.specs.declared.image_verdict.Verdict.TheVariants.{Stored, WithDoubtful, Neither}
-use Rattle.urb_node.specs.internal.LayerAdditions.{with_doubtful}
-use Rattle.urb_node.specs.CallEffects.{Restarts}
-use Rattle.urb_node.specs.NodeMemories.{Fallen, Memory}
+use Rattle.urb_node.proofs.Common.{Err, Fallen, IsVerdict, Memory, Neither, None, Ok, Restarts, []}
+use Rattle.urb_node.proofs.Common.{ap, ap₂, memory_of, rules, subst, sym, with_doubtful, ◌∙◌, ◌≡◌}
+use Rattle.urb_node.specs.declared.image_verdict.Verdict.TheVariants.{Stored, WithDoubtful}
 use Rattle.urb_node.proofs.ReceiptResults.{first_held, released_held}
 use Rattle.urb_node.proofs.RestartResults.{neither-leads, short-leads, stored-leads}
 use Rattle.urb_node.proofs.RestartResults.{with_doubtful-leads}
+use Rattle.urb_names.specs.declared.refusal.Refusal.TheVariants as refusal
 use Rattle.urb_node.proofs.down.recover.Goals as goal
 
 pub returns-in-Stored : goal.returns-in-Stored

@@ -1,8 +1,4 @@
-use Rattle.std.proofs.Common.{◌≡◌, drop}
-use Rattle.std.specs.List.{list_all}
-use Rattle.urb_names.specs.Pairs.{has_pair}
-use Rattle.urb_stable.specs.Records.{pend}
-use Rattle.urb_node.specs.internal.ImageVerdicts.{pairs_with}
+use Rattle.urb_node.proofs.Common.{drop, has_pair, list_all, pairs_with, pend, ◌≡◌}
 use Rattle.urb_node.proofs.image_pairs.are_known.Given as goal
 
 -- all pairs so far are known

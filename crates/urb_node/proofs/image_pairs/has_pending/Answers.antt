@@ -1,9 +1,8 @@
-use Rattle.std.proofs.Common.{rules, ◌≡◌, ◌<◌, arith, false, true, slice_get, length, Some, None}
-use Rattle.urb_names.specs.Pairs.{has_pair}
-use Rattle.urb_stable.specs.Records.{pend}
+use Rattle.urb_node.proofs.Common.{None, Some, arith, false, has_pair, length, pend, rules}
+use Rattle.urb_node.proofs.Common.{slice_get, true, ◌<◌, ◌≡◌}
 use Rattle.urb_node.proofs.ImagePairs.{none_left, one_more, one_not}
-use Rattle.urb_node.proofs.image_pairs.has_pending.Goals as goal
 use Rattle.urb_node.proofs.image_pairs.has_pending.Goals.{in-Some+else-not-has, in_default}
+use Rattle.urb_node.proofs.image_pairs.has_pending.Goals as goal
 
 pub returns-then-not-has : goal.returns-then-not-has
 returns-then-not-has g c =

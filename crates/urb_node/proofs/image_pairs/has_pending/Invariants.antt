@@ -1,7 +1,4 @@
-use Rattle.std.proofs.Common.{◌≡◌, drop}
-use Rattle.std.specs.List.{list_all}
-use Rattle.urb_names.specs.Pairs.{has_pair}
-use Rattle.urb_stable.specs.Records.{pend}
+use Rattle.urb_node.proofs.Common.{drop, has_pair, list_all, pend, ◌≡◌}
 use Rattle.urb_node.proofs.image_pairs.has_pending.Given as goal
 
 -- the image has all pairs so far

@@ -1,11 +1,8 @@
-use Rattle.std.proofs.Common.{rules, ◌≡◌, ◌<◌, ◌∙◌, [], arith, ap, length, slice_get, Some, None}
-use Rattle.urb_names.specs.Acknowledgements.{acked}
-use Rattle.urb_names.specs.Names.{has_name}
-use Rattle.urb_majority.specs.Acks.{AckSet}
-use Rattle.urb_node.specs.internal.LayerAdditions.{counted_with}
+use Rattle.urb_node.proofs.Common.{AckSet, None, Some, [], acked, ap, arith, counted_with, has_name}
+use Rattle.urb_node.proofs.Common.{length, rules, slice_get, ◌<◌, ◌∙◌, ◌≡◌}
 use Rattle.urb_node.proofs.ImagePairs.{counted_more, none_left}
-use Rattle.urb_node.proofs.image_verdict.count_itself.Goals as goal
 use Rattle.urb_node.proofs.image_verdict.count_itself.Goals.{in-Some+in_ok-note, in_default}
+use Rattle.urb_node.proofs.image_verdict.count_itself.Goals as goal
 
 pub loop-index-preserved : goal.loop-index-preserved
 loop-index-preserved g c = elim c.match-get.branch [

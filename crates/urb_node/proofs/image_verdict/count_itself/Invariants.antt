@@ -1,7 +1,4 @@
-use Rattle.std.proofs.Common.{◌≡◌, ℕ, ◌||◌, take}
-use Rattle.urb_names.specs.Acknowledgements.{acked}
-use Rattle.urb_names.specs.LabelsAndContents.{Label}
-use Rattle.urb_node.specs.Part.{self_acks}
+use Rattle.urb_node.proofs.Common.{Label, acked, self_acks, take, ℕ, ◌||◌, ◌≡◌}
 use Rattle.urb_node.proofs.image_verdict.count_itself.Given as goal
 
 -- the node is counted for the names so far

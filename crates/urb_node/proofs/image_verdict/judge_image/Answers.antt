@@ -1,8 +1,5 @@
-use Rattle.std.proofs.Common.{List, subst, sym, ◌≤◌}
-use Rattle.urb_names.specs.LabelsAndContents.{Limits}
-use Rattle.urb_stable.specs.Entries.{Entry, name_of}
-use Rattle.urb_node.specs.LayerFields.{memory_of}
-use Rattle.urb_node.specs.internal.ImageVerdicts.{IsVerdict}
+use Rattle.urb_node.proofs.Common.{Entry, IsVerdict, Limits, List, memory_of, name_of, subst, sym}
+use Rattle.urb_node.proofs.Common.{◌≤◌}
 use Rattle.urb_node.proofs.ImageComparisons.{next_range, strange_is_neither}
 use Rattle.urb_node.proofs.image_verdict.judge_image.Goals as goal
 

@@ -1,9 +1,6 @@
-use Rattle.std.proofs.Common.{rules, ◌≡◌, ◌<◌, arith, length, true, false, refl, reverse, take}
-use Rattle.std.proofs.Common.{slice_get, Some, List, subst, sym}
+use Rattle.urb_node.proofs.Common.{IsReleaseOf, Label, List, Some, arith, cert, false, length, refl}
+use Rattle.urb_node.proofs.Common.{reverse, rules, slice_get, subst, sym, take, true, ◌<◌, ◌≡◌}
 use Rattle.std.proofs.lemmas.Option.{slice_get_read}
-use Rattle.urb_names.specs.LabelsAndContents.{Label}
-use Rattle.urb_fifo.specs.Delivery.{IsReleaseOf}
-use Rattle.urb_stable.specs.Records.{cert}
 use Rattle.urb_node.proofs.ImagePairs.{certified_at, certified_to}
 use Rattle.urb_node.proofs.image_verdict.release_certificates.Goals as goal
 

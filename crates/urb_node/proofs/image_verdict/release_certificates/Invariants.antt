@@ -1,6 +1,4 @@
-use Rattle.std.proofs.Common.{◌≡◌, reverse, take}
-use Rattle.urb_fifo.specs.Delivery.{IsReleaseOf}
-use Rattle.urb_stable.specs.Records.{cert}
+use Rattle.urb_node.proofs.Common.{IsReleaseOf, cert, reverse, take, ◌≡◌}
 use Rattle.urb_node.proofs.image_verdict.release_certificates.Given as goal
 
 -- what the certificates so far release

@@ -1,7 +1,6 @@
-use Rattle.std.proofs.Common.{Option, Some, ap, subst, sym, ◌∙◌}
-use Rattle.urb_fifo.specs.Delivery.{Delivery}
-use Rattle.urb_stable.specs.Entries.{Entry}
-use Rattle.urb_node.specs.internal.ImageVerdicts.{IsJoined, certified_by, delivered_by}
+use Rattle.urb_node.proofs.Common.{Delivery, Entry, Option, Some, ap, certified_by, delivered_by}
+use Rattle.urb_node.proofs.Common.{subst, sym, ◌∙◌}
+use Rattle.urb_node.specs.internal.ImageVerdicts.{IsJoined}
 use Rattle.urb_node.proofs.ImageComparisons.{joined_decides}
 use Rattle.urb_node.proofs.HoldableDrafts.{one_more_fits}
 use Rattle.urb_node.proofs.image_verdict.says_joined.Goals as goal

@@ -1,11 +1,5 @@
-use Rattle.std.proofs.Common.{◌≡◌, true, false, is_some, ap, sym, subst, arith}
-use Rattle.urb_names.specs.Names.{has_name}
-use Rattle.urb_names.specs.Pairs.{message_of}
-use Rattle.urb_stable.specs.Entries.{Entry}
-use Rattle.urb_stable.specs.declared.record.Record.TheVariants.{Cert, PendCert}
-use Rattle.urb_node.specs.LayerFields.{memory_of}
-use Rattle.urb_node.specs.internal.HeldLayers.{IsNextHeld}
-use Rattle.urb_node.specs.NodeMemories.{Memory}
+use Rattle.urb_node.proofs.Common.{Cert, Entry, IsNextHeld, Memory, PendCert, ap, arith, false}
+use Rattle.urb_node.proofs.Common.{has_name, is_some, memory_of, message_of, subst, sym, true, ◌≡◌}
 use Rattle.urb_node.proofs.ReceiptResults.{certified_pending, first_held}
 use Rattle.urb_node.proofs.JoinedLayers.{counted-kept, joined-pending}
 use Rattle.urb_node.proofs.ImageComparisons.{next_range}

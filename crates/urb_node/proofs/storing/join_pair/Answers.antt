@@ -1,6 +1,4 @@
-use Rattle.std.proofs.Common.{ap, rules, sym, ◌∙◌, ◌≡◌}
-use Rattle.urb_stubborn.specs.Resends.{Resending}
-use Rattle.urb_pending.specs.PendingSet.{added}
+use Rattle.urb_node.proofs.Common.{Resending, added, ap, rules, sym, ◌∙◌, ◌≡◌}
 use Rattle.urb_node.proofs.JoinedLayers.{pair-kept}
 use Rattle.urb_node.proofs.storing.join_pair.Goals as goal
 

@@ -1,6 +1,4 @@
-use Rattle.std.proofs.Common.{rules}
-use Rattle.clap.specs.Words.{new_app}
-use Rattle.std.proofs.lemmas.Result.{IfOk-weaker}
+use Rattle.urb_options.proofs.Common.{IfOk-weaker, new_app, rules}
 use Rattle.urb_options.proofs.BuiltCommands.{adds}
 use Rattle.urb_options.proofs.grammar.client_command.Goals as goal
 

@@ -1,6 +1,4 @@
-use Rattle.std.proofs.Common.{rules, codes}
-use Rattle.clap.specs.Words.{new_app}
-use Rattle.std.proofs.lemmas.Result.{IfOk-weaker}
+use Rattle.urb_options.proofs.Common.{IfOk-weaker, codes, new_app, rules}
 use Rattle.urb_options.proofs.BuiltCommands.{adds}
 use Rattle.urb_options.proofs.grammar.group_command.Goals as goal
 

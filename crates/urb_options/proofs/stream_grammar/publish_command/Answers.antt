@@ -1,7 +1,5 @@
-use Rattle.std.proofs.Common.{rules, codes}
-use Rattle.std.proofs.lemmas.Result.{IfOk-weaker}
+use Rattle.urb_options.proofs.Common.{IfOk-weaker, client_app, codes, rules}
 use Rattle.urb_options.proofs.BuiltCommands.{adds}
-use Rattle.urb_options.specs.CommandLine.{client_app}
 use Rattle.urb_options.proofs.stream_grammar.publish_command.Goals as goal
 
 pub returns : goal.returns

@@ -1,6 +1,5 @@
-use Rattle.std.proofs.Common.{◌∙◌}
-use Rattle.std.specs.Str.Parse.{ParsesUnsigned, ExplainsUnsignedError, HasUnsignedDigitsIfOk}
-use Rattle.clap.specs.Words.{found_of}
+use Rattle.urb_options.proofs.Common.{ParsesUnsigned, found_of, ◌∙◌}
+use Rattle.std.specs.Str.Parse.{ExplainsUnsignedError, HasUnsignedDigitsIfOk}
 use Rattle.urb_options.proofs.NumbersRead.{number_found}
 use Rattle.urb_options.proofs.values.number.Goals as goal
 

@@ -1,6 +1,5 @@
-use Rattle.std.proofs.Common.{◌∙◌}
+use Rattle.urb_options.proofs.Common.{found_of, ◌∙◌}
 use Rattle.clap.proofs.WalkLemmas.{first_value-rows}
-use Rattle.clap.specs.Words.{found_of}
 use Rattle.urb_options.proofs.values.text.Goals as goal
 
 pub returns : goal.returns

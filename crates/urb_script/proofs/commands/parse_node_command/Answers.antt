@@ -1,6 +1,4 @@
-use Rattle.std.proofs.Common.{◌≡◌}
-use Rattle.std.specs.Prelude.{codes}
-use Rattle.urb_script.specs.internal.LineReads.{words_left}
+use Rattle.urb_script.proofs.Common.{codes, words_left, ◌≡◌}
 use Rattle.urb_script.proofs.Spellings.{no_keyword, no_node, not_word}
 use Rattle.urb_script.proofs.commands.parse_node_command.Goals as goal
 

@@ -1,6 +1,4 @@
-use Rattle.std.proofs.Common.{◌≡◌}
-use Rattle.std.specs.Prelude.{codes}
-use Rattle.urb_script.specs.internal.LineReads.{words_left}
+use Rattle.urb_script.proofs.Common.{codes, words_left, ◌≡◌}
 use Rattle.urb_script.proofs.Spellings.{none_arrive, none_arrive_flagged, none_fail, none_group}
 use Rattle.urb_script.proofs.Spellings.{none_held, none_other, none_raw, none_reopen, none_submit}
 use Rattle.urb_script.proofs.Spellings.{not_word, some_as}

@@ -1,6 +1,4 @@
-use Rattle.std.proofs.Common.{◌≡◌, ◌==◌, false, length, vec_capacity}
-use Rattle.std.specs.List.{All}
-use Rattle.std.specs.Io.KnownBytes.{Consumes}
+use Rattle.urb_script.proofs.Common.{All, Consumes, false, length, vec_capacity, ◌==◌, ◌≡◌}
 use Rattle.urb_script.proofs.input.read_line.Given as goal
 
 -- what is read so far has no LF

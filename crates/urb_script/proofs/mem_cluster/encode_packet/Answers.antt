@@ -1,6 +1,4 @@
-use Rattle.std.proofs.Common.{Option, ap, ◌∙◌}
-use Rattle.urb_names.specs.CarriedPackets.{Carried}
-use Rattle.urb_names.specs.declared.flags.Flags.{Flags}
+use Rattle.urb_script.proofs.Common.{Carried, Flags, Option, ap, ◌∙◌}
 use Rattle.urb_script.proofs.ClusterAnswers.{bytes_spelled}
 use Rattle.urb_script.proofs.mem_cluster.encode_packet.Goals as goal
 

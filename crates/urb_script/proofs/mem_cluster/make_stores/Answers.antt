@@ -1,6 +1,4 @@
-use Rattle.std.proofs.Common.{◌≡◌, rules}
-use Rattle.std.proofs.lemmas.List.Elements.{All-push}
-use Rattle.urb_stable.specs.MemoryStores.{empty_memory}
+use Rattle.urb_script.proofs.Common.{All-push, empty_memory, rules, ◌≡◌}
 use Rattle.urb_script.proofs.mem_cluster.make_stores.Goals as goal
 
 pub loop-preserved : goal.loop-preserved

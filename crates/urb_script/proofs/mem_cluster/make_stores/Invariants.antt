@@ -1,6 +1,4 @@
-use Rattle.std.proofs.Common.{◌≡◌, length}
-use Rattle.std.specs.List.{All}
-use Rattle.urb_stable.specs.MemoryStores.{empty_memory}
+use Rattle.urb_script.proofs.Common.{All, empty_memory, length, ◌≡◌}
 use Rattle.urb_script.proofs.mem_cluster.make_stores.Given as goal
 
 -- as many new stores as were made

@@ -1,5 +1,4 @@
-use Rattle.std.proofs.Common.{rules}
-use Rattle.urb_script.specs.Texts.{packet_text}
+use Rattle.urb_script.proofs.Common.{packet_text, rules}
 use Rattle.urb_script.proofs.ListTexts.{one_more}
 use Rattle.urb_script.proofs.reply_lines.push_packets.Goals as goal
 

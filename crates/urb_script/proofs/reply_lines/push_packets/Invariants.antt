@@ -1,6 +1,4 @@
-use Rattle.std.proofs.Common.{◌≡◌, ◌++◌, drop}
-use Rattle.std.specs.List.{flat_map}
-use Rattle.urb_script.specs.Texts.{packet_text}
+use Rattle.urb_script.proofs.Common.{drop, flat_map, packet_text, ◌++◌, ◌≡◌}
 use Rattle.urb_script.proofs.reply_lines.push_packets.Given as goal
 
 -- what is written so far, and what is left

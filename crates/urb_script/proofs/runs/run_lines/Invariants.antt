@@ -1,5 +1,4 @@
-use Rattle.std.proofs.Common.{◌≤◌, vec_capacity}
-use Rattle.std.specs.Option.{IfSome}
+use Rattle.urb_script.proofs.Common.{IfSome, vec_capacity, ◌≤◌}
 use Rattle.urb_script.specs.declared.input.TheConstants.{TOO_LONG}
 use Rattle.urb_script.proofs.Progress.{Going}
 use Rattle.urb_script.proofs.runs.run_lines.Given as goal

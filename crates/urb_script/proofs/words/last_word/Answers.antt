@@ -1,5 +1,4 @@
-use Rattle.std.proofs.Common.{rules}
-use Rattle.urb_script.specs.internal.LineReads.{words_left}
+use Rattle.urb_script.proofs.Common.{rules, words_left}
 use Rattle.urb_script.proofs.Spellings.{one_word}
 use Rattle.urb_script.proofs.words.last_word.Goals as goal
 

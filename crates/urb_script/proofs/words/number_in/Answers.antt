@@ -1,5 +1,4 @@
-use Rattle.std.proofs.Common.{◌∙◌, sym, arith}
-use Rattle.std.proofs.lemmas.Fmt.{decimal_injective}
+use Rattle.urb_script.proofs.Common.{arith, decimal_injective, sym, ◌∙◌}
 use Rattle.urb_script.proofs.words.number_in.Goals as goal
 
 pub returns-then-number-low-clause-none : goal.returns-then-number-low-clause-none

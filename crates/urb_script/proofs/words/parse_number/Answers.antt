@@ -1,8 +1,7 @@
-use Rattle.std.proofs.Common.{◌∙◌, sym, ap, subst, length, get_or, arith}
-use Rattle.std.specs.Str.{IsUtf8}
+use Rattle.urb_script.proofs.Common.{IsUtf8, ap, arith, get_or, length, subst, sym, ◌∙◌}
 use Rattle.std.proofs.lemmas.Fmt.{decimal_nonempty}
-use Rattle.urb_script.proofs.NumberWords.{decimal_no_plus, decimal_zero, decimal_text, reads_some}
-use Rattle.urb_script.proofs.NumberWords.{reads_none, only_zero}
+use Rattle.urb_script.proofs.NumberWords.{decimal_no_plus, decimal_text, decimal_zero, only_zero}
+use Rattle.urb_script.proofs.NumberWords.{reads_none, reads_some}
 use Rattle.urb_script.proofs.words.parse_number.Goals as goal
 
 pub returns-then-is_empty-clause-none : goal.returns-then-is_empty-clause-none

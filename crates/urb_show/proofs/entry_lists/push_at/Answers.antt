@@ -1,5 +1,4 @@
-use Rattle.std.proofs.Common.{ap, sym, arith, length, map, slice_index_or, ◌≤◌}
-use Rattle.std.proofs.lemmas.List.{length-map}
+use Rattle.urb_show.proofs.Common.{ap, arith, length, length-map, map, slice_index_or, sym, ◌≤◌}
 use Rattle.urb_show.proofs.ListAdditions.{add_at-beyond, pushed}
 use Rattle.urb_show.proofs.entry_lists.push_at.Goals as goal
 

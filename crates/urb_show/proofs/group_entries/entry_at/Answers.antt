@@ -1,6 +1,5 @@
-use Rattle.std.proofs.Common.{arith, ◌<◌, ◌-◌, length}
-use Rattle.urb_show.specs.Lists.{delivery_of, list_at, lists_in}
-use Rattle.std.proofs.lemmas.List.{length-map}
+use Rattle.urb_show.proofs.Common.{arith, delivery_of, length, length-map, list_at, lists_in, ◌-◌}
+use Rattle.urb_show.proofs.Common.{◌<◌}
 use Rattle.urb_show.proofs.GroupLists.{lists_agree}
 use Rattle.urb_show.proofs.GroupReports.{log_entry, log_is_told, log_length, message_is_told}
 use Rattle.urb_show.proofs.group_entries.entry_at.Goals as goal

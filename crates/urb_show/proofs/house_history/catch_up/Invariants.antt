@@ -1,5 +1,4 @@
-use Rattle.std.proofs.Common.{length, ◌-◌, ◌≡◌}
-use mathlib.Core.List.{IsPrefix}
+use Rattle.urb_show.proofs.Common.{IsPrefix, length, ◌-◌, ◌≡◌}
 use Rattle.urb_show.proofs.house_history.catch_up.Given as goal
 
 -- the shared history is a prefix of the past

@@ -1,7 +1,5 @@
-use Rattle.std.proofs.Common.{List, [], ap, subst, sym, ◌∙◌, ◌≡◌}
-use Rattle.urb_world.specs.Step.{Event}
-use Rattle.urb_show.specs.DeliveredLists.{AreDeliveredBy}
-use Rattle.urb_show.specs.internal.Marks.{MarkView}
+use Rattle.urb_show.proofs.Common.{AreDeliveredBy, Event, List, MarkView, [], ap, subst, sym, ◌∙◌}
+use Rattle.urb_show.proofs.Common.{◌≡◌}
 use Rattle.urb_show.proofs.opened_group.begin_reader.Goals as goal
 
 pub new-requires-clause-delivered : goal.new-requires-clause-delivered

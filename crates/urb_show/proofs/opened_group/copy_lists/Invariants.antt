@@ -1,5 +1,4 @@
-use Rattle.std.proofs.Common.{length, map, take, ◌≡◌}
-use Rattle.urb_show.specs.Lists.{lists_in}
+use Rattle.urb_show.proofs.Common.{length, lists_in, map, take, ◌≡◌}
 use Rattle.urb_show.proofs.opened_group.copy_lists.Given as goal
 
 abbrev pub invariant-loop-place : goal.invariant-loop-place

@@ -1,15 +1,9 @@
-use Rattle.std.proofs.Common.{[], ap, refl, subst, ◌≡◌, ◌∙◌}
-use Rattle.urb_group.specs.GroupViews.{IsSound}
-use Rattle.urb_world.specs.Step.{Event}
-use Rattle.urb_show.specs.declared.entry.Addition.{Addition}
+use Rattle.urb_show.proofs.Common.{Addition, Agree, Event, IsSound, Lists, MarkView, NameView, []}
+use Rattle.urb_show.proofs.Common.{ap, issue_of, refl, subst, ◌∙◌, ◌≡◌}
 use Rattle.urb_show.proofs.DeliveredPlaces.{opened_delivered}
 use Rattle.urb_show.proofs.GroupLists.{lists_agree}
 use Rattle.urb_show.proofs.PublishingSteps.{first_issue}
 use Rattle.urb_show.proofs.TimelyAdditions.{timely_none}
-use Rattle.urb_show.specs.internal.History.{issue_of}
-use Rattle.urb_show.specs.internal.Marks.{MarkView}
-use Rattle.urb_show.specs.internal.PublishingRule.{NameView}
-use Rattle.urb_show.specs.Lists.{Agree, Lists}
 use Rattle.urb_show.proofs.opened_group.make_writer.Goals as goal
 
 pub new-requires-clause-rule : goal.new-requires-clause-rule

@@ -1,10 +1,6 @@
-use Rattle.std.proofs.Common.{[], refl, ◌∙◌}
-use Rattle.urb_group.proofs.shown.Deliveries.{deliveries-known}
-use Rattle.urb_world.proofs.steps.Runs.{reached-keeps}
-use Rattle.urb_world.specs.World.{stored}
+use Rattle.urb_show.proofs.Common.{[], deliveries-known, log, reached-keeps, refl, stored, ◌∙◌}
 use Rattle.urb_show.proofs.ServiceJoins.{entries-shown, logs-join}
 use Rattle.urb_show.proofs.service_laws.every_log_is_one_of_the_service.Goals as goal
-use Rattle.urb_stable.specs.DeliveredLogs.{log}
 
 pub returns-clause-logs : goal.returns-clause-logs
 returns-clause-logs c w p r =

@@ -1,7 +1,4 @@
-use Rattle.std.proofs.Common.{[], refl, suc, zero, ◌∷◌}
-use Rattle.urb_world.specs.World.{started}
-use Rattle.urb_names.specs.LabelsAndContents.{Limits}
-use Rattle.urb_show.specs.DeliveredLists.{HaveDelivered}
+use Rattle.urb_show.proofs.Common.{HaveDelivered, Limits, [], refl, started, suc, zero, ◌∷◌}
 use Rattle.urb_show.proofs.worked.deliveries_of_a_new_world.Goals as goal
 
 none : (size : Limits) → HaveDelivered (started size) ([] ∷ [] ∷ [])

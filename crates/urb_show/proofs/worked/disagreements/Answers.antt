@@ -1,7 +1,5 @@
-use Rattle.std.proofs.Common.{ap, arith, slice_index_or, sym, ⊎_elim, ◌≡◌}
-use Rattle.urb_group.specs.DeliveredMessages.{Delivery}
-use Rattle.urb_show.specs.internal.Examples.{told}
-use Rattle.urb_show.specs.Lists.{delivery_of}
+use Rattle.urb_show.proofs.Common.{Delivery, ap, arith, delivery_of, slice_index_or, sym, told}
+use Rattle.urb_show.proofs.Common.{⊎_elim, ◌≡◌}
 use Rattle.urb_show.proofs.worked.disagreements.Goals as goal
 
 -- one letter is not another

@@ -1,12 +1,7 @@
-use Rattle.std.proofs.Common.{◌≤◌, inl, arith, rules}
-use Rattle.sqlite.specs.Held.{state}
-use Rattle.sqlite.specs.State.{HasCleanDisk, IsUnchanged}
-use Rattle.urb_sqlite.specs.declared.sql.Part.{Part}
-use Rattle.urb_sqlite.specs.declared.sql.Part.TheVariants.{First, Second}
-use Rattle.urb_names.specs.declared.limits.TheConstants.{MAX_PAYLOAD}
-use Rattle.urb_sqlite.specs.JournalTables.{limit_of}
-use Rattle.urb_sqlite.proofs.KeptRecords.{unchanged_by_select, reads_if_shown}
-use Rattle.urb_sqlite.proofs.CursorReads.{bad_in_table, no_records, no_bad_row}
+use Rattle.urb_sqlite.proofs.Common.{First, HasCleanDisk, IsUnchanged, MAX_PAYLOAD, Part, Second}
+use Rattle.urb_sqlite.proofs.Common.{arith, inl, limit_of, rules, state, ◌≤◌}
+use Rattle.urb_sqlite.proofs.KeptRecords.{reads_if_shown, unchanged_by_select}
+use Rattle.urb_sqlite.proofs.CursorReads.{bad_in_table, no_bad_row, no_records}
 use Rattle.urb_sqlite.proofs.counting.count_part.Goals as goal
 
 low : (part : Part) → limit_of part ≤ MAX_PAYLOAD

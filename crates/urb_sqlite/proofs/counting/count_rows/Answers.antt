@@ -1,16 +1,13 @@
-use Rattle.std.proofs.Common.{◌≡◌, ◌+◌, [], ◌∷◌, ◌++◌, List, length, length-append, Ok, Err, Some}
-use Rattle.std.proofs.Common.{refl, sym, ap, ◌∙◌, arith, rules, option_copied}
-use Rattle.sqlite.specs.Order.{Row}
-use Rattle.sqlite.specs.State.{HasCleanDisk, IsUnchanged, Shown}
-use Rattle.sqlite.specs.Held.{state}
-use Rattle.urb_stable.specs.Entries.{Entry}
-use Rattle.urb_sqlite.specs.internal.JournalStatements.{select_of}
-use Rattle.urb_sqlite.specs.RowReadings.{read_from, record_at}
+use Rattle.urb_sqlite.proofs.Common.{Entry, Err, HasCleanDisk, IsUnchanged, List, Ok, Row, Some, []}
+use Rattle.urb_sqlite.proofs.Common.{ap, arith, length, length-append, option_copied, read_from}
+use Rattle.urb_sqlite.proofs.Common.{record_at, refl, rules, select_of, state, sym, ◌++◌, ◌+◌, ◌∙◌}
+use Rattle.urb_sqlite.proofs.Common.{◌∷◌, ◌≡◌}
+use Rattle.sqlite.specs.State.{Shown}
 use Rattle.urb_sqlite.specs.declared.rows.TableFault.TheVariants.{BadRow}
 use Rattle.urb_sqlite.proofs.SpelledRows.{found_in}
-use Rattle.urb_sqlite.proofs.TableReadings.{survives_both, earlier, unchanged_then}
-use Rattle.urb_sqlite.proofs.CursorReads.{start_stops, reads_none, refused_stops, refused_left}
-use Rattle.urb_sqlite.proofs.CursorReads.{reads_on, meets_bad, reads_all, on_err}
+use Rattle.urb_sqlite.proofs.TableReadings.{earlier, survives_both, unchanged_then}
+use Rattle.urb_sqlite.proofs.CursorReads.{meets_bad, on_err, reads_all, reads_none, reads_on}
+use Rattle.urb_sqlite.proofs.CursorReads.{refused_left, refused_stops, start_stops}
 use Rattle.urb_sqlite.proofs.counting.count_rows.Goals as goal
 
 pub returns-in_err-rows-clause-left : goal.returns-in_err-rows-clause-left

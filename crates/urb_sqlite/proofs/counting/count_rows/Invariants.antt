@@ -1,7 +1,5 @@
-use Rattle.std.proofs.Common.{◌≡◌, ◌+◌, ◌-◌, List, length}
-use Rattle.sqlite.specs.State.{HasCleanDisk, Survives}
-use Rattle.sqlite.specs.Held.{state}
-use Rattle.urb_stable.specs.Entries.{Entry}
+use Rattle.urb_sqlite.proofs.Common.{Entry, HasCleanDisk, List, Survives, length, state, ◌+◌, ◌-◌}
+use Rattle.urb_sqlite.proofs.Common.{◌≡◌}
 use Rattle.urb_sqlite.proofs.CursorReads.{HasReadTo}
 use Rattle.urb_sqlite.proofs.counting.count_rows.Given as goal
 

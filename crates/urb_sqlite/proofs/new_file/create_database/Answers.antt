@@ -1,7 +1,6 @@
-use Rattle.std.proofs.Common.{ap, ◌∙◌}
+use Rattle.urb_sqlite.proofs.Common.{ap, no_doubt, ◌∙◌}
 use Rattle.sqlite_store.specs.Listed.{catalog_rows}
 use Rattle.sqlite_store.specs.Listing.{listed_from}
-use Rattle.sqlite_trees.proofs.Doubt.{no_doubt}
 use Rattle.urb_sqlite.proofs.new_file.create_database.Goals as goal
 
 pub returns-in-Ok-clause-fresh : goal.returns-in-Ok-clause-fresh

@@ -1,6 +1,4 @@
-use Rattle.std.proofs.Common.{arith, subst, sym}
-use Rattle.sqlite_pool.specs.Opening.{IsBlankFile}
-use Rattle.sqlite.specs.Files.{image_of}
+use Rattle.urb_sqlite.proofs.Common.{IsBlankFile, arith, image_of, subst, sym}
 use Rattle.urb_sqlite.proofs.BlankFiles.{holds_none}
 use Rattle.urb_sqlite.proofs.new_file.is_blank.Goals as goal
 

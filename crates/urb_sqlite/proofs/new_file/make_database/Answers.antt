@@ -1,12 +1,9 @@
-use Rattle.std.proofs.Common.{arith, sym, ap, ◌∙◌, inl, inr}
+use Rattle.urb_sqlite.proofs.Common.{ap, arith, catalog_tree, file_state, inl, inr, is_place, sym}
+use Rattle.urb_sqlite.proofs.Common.{view, ◌∙◌}
 use Rattle.sqlite.proofs.OpenLemmas.{pool_files}
-use Rattle.sqlite.specs.Files.{file_state}
-use Rattle.sqlite_store.specs.FileStore.{view}
 use Rattle.sqlite_trees.proofs.Doubt.{clean_of}
-use Rattle.sqlite_trees.specs.Objects.{catalog_tree}
 use Rattle.sqlite_trees.specs.Tree.{Trees}
 use Rattle.sqlite_wal.specs.Reads.{are_clean}
-use Rattle.urb_stable.specs.StableStorage.{is_place}
 use Rattle.urb_sqlite.proofs.JournalSchemas.{bare_schema}
 use Rattle.urb_sqlite.proofs.new_file.make_database.Goals as goal
 

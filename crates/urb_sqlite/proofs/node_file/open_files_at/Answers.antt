@@ -1,6 +1,5 @@
-use Rattle.std.proofs.Common.{Bool, List, ap₂, cond, ℕ}
+use Rattle.urb_sqlite.proofs.Common.{Bool, Image, List, ap₂, cond, ℕ}
 use Rattle.sqlite_disk.specs.Events.{Event, replay}
-use Rattle.sqlite_wal.specs.Recovery.{Image}
 use Rattle.urb_sqlite.proofs.node_file.open_files_at.Goals as goal
 
 abbrev image : List ℕ → List ℕ → Image

@@ -1,6 +1,4 @@
-use Rattle.std.proofs.Common.{◌≡◌, ◌⊎◌}
-use Rattle.std.specs.Prelude.{IfErr}
-use Rattle.urb_stable.specs.declared.stable.StoreFault.TheVariants.{Device, NoMemory}
+use Rattle.urb_sqlite.proofs.Common.{Device, IfErr, NoMemory, ◌≡◌, ◌⊎◌}
 use Rattle.urb_sqlite.proofs.node_journals.close_nodes.Given as goal
 
 -- a fault so far is one of these

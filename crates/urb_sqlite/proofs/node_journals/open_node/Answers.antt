@@ -1,12 +1,5 @@
-use Rattle.std.proofs.Common.{subst, ◌∙◌}
-use Rattle.std.specs.Prelude.{IfOk}
-use Rattle.sqlite.proofs.FileLemmas.{same_image}
-use Rattle.sqlite.specs.State.{HasCleanDisk}
-use Rattle.sqlite.specs.Files.{file_state}
-use Rattle.sqlite_wal.specs.Recovery.{Image}
-use Rattle.urb_sqlite.specs.FoundJournals.{IsFoundIn}
-use Rattle.urb_sqlite.specs.OpenJournal.{IsHonestJournal}
-use Rattle.urb_sqlite.specs.RowReadings.{records_of}
+use Rattle.urb_sqlite.proofs.Common.{HasCleanDisk, IfOk, Image, IsFoundIn, IsHonestJournal}
+use Rattle.urb_sqlite.proofs.Common.{file_state, records_of, same_image, subst, ◌∙◌}
 use Rattle.urb_sqlite.proofs.node_journals.open_node.Goals as goal
 
 pub returns-clause-found : goal.returns-clause-found

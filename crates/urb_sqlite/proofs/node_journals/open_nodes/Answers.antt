@@ -1,10 +1,6 @@
-use Rattle.std.proofs.Common.{Some, ap, arith, length, rules, slice_get, subst, suc, sym, vec_len}
-use Rattle.std.proofs.Common.{◌∙◌, ◌≡◌, ◌≤◌}
-use Rattle.urb_names.specs.declared.limits.TheConstants.{MAX_NODES}
-use Rattle.sqlite.specs.State.{HasCleanDisk}
-use Rattle.sqlite.specs.Files.{file_state}
-use Rattle.urb_sqlite.specs.OpenJournal.{IsHonestJournal}
-use Rattle.urb_sqlite.specs.RowReadings.{records_of}
+use Rattle.urb_sqlite.proofs.Common.{HasCleanDisk, IsHonestJournal, MAX_NODES, Some, ap, arith}
+use Rattle.urb_sqlite.proofs.Common.{file_state, length, records_of, rules, slice_get, subst, suc}
+use Rattle.urb_sqlite.proofs.Common.{sym, vec_len, ◌∙◌, ◌≡◌, ◌≤◌}
 use Rattle.urb_sqlite.proofs.NodeJournals.{claimed, made_all, next_claim, one_more}
 use Rattle.urb_sqlite.proofs.node_journals.open_nodes.Goals as goal
 

@@ -1,9 +1,5 @@
-use Rattle.std.proofs.Common.{Some, slice_get, suc, vec_capacity, vec_len, ℕ, ◌≡◌, ◌≤◌}
-use Rattle.sqlite.specs.State.{HasCleanDisk}
-use Rattle.sqlite.specs.Files.{file_state}
-use Rattle.urb_sqlite.specs.FoundJournals.{IsFoundIn}
-use Rattle.urb_sqlite.specs.OpenJournal.{IsHonestJournal}
-use Rattle.urb_sqlite.specs.RowReadings.{records_of}
+use Rattle.urb_sqlite.proofs.Common.{HasCleanDisk, IsFoundIn, IsHonestJournal, Some, file_state}
+use Rattle.urb_sqlite.proofs.Common.{records_of, slice_get, suc, vec_capacity, vec_len, ℕ, ◌≡◌, ◌≤◌}
 use Rattle.urb_sqlite.proofs.node_journals.open_nodes.Given as goal
 
 -- there is a journal for each node so far, and room for all

@@ -1,6 +1,5 @@
-use Rattle.std.proofs.Common.{◌+◌}
+use Rattle.urb_sqlite.proofs.Common.{state, ◌+◌}
 use Rattle.urb_sqlite.proofs.KeptRecords.{appended, left, left_by_err, stops_at_insert, stops_now}
-use Rattle.sqlite.specs.Held.{state}
 use Rattle.urb_sqlite.proofs.records.append.Goals as goal
 
 pub returns-in-Ok-clause-ok : goal.returns-in-Ok-clause-ok

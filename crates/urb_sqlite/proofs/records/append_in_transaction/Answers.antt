@@ -1,8 +1,7 @@
-use Rattle.std.proofs.Common.{◌+◌, inl, length}
+use Rattle.urb_sqlite.proofs.Common.{inl, length, state, ◌+◌}
 use Rattle.urb_sqlite.proofs.KeptRecords.{stops_now}
 use Rattle.urb_sqlite.proofs.TransactionRecords.{added_all, left_still, left_undone}
 use Rattle.urb_sqlite.proofs.TransactionRecords.{stops_at_inserts}
-use Rattle.sqlite.specs.Held.{state}
 use Rattle.urb_sqlite.proofs.records.append_in_transaction.Goals as goal
 
 pub returns-in-Ok-clause-ok : goal.returns-in-Ok-clause-ok

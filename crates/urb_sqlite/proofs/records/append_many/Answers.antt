@@ -1,8 +1,5 @@
-use Rattle.std.proofs.Common.{arith, ◌++◌, ◌≡◌, ◌⊎◌, subst, sym}
-use Rattle.sqlite.specs.Held.{state}
-use Rattle.urb_sqlite.specs.OpenJournal.{LeavesOnly}
-use Rattle.urb_sqlite.specs.RowReadings.{records_of}
-use Rattle.urb_sqlite.specs.internal.TransactionChanges.{AreAdded}
+use Rattle.urb_sqlite.proofs.Common.{AreAdded, LeavesOnly, arith, records_of, state, subst, sym}
+use Rattle.urb_sqlite.proofs.Common.{◌++◌, ◌≡◌, ◌⊎◌}
 use Rattle.urb_sqlite.proofs.TransactionRecords.{alone_added, ok-then, one-alone}
 use Rattle.urb_sqlite.proofs.records.append_many.Goals as goal
 

@@ -1,6 +1,4 @@
-use Rattle.std.proofs.lemmas.Result.{err_from_is_err_and}
-use Rattle.sqlite.specs.Held.{state}
-use Rattle.sqlite.specs.State.{HasCleanDisk}
+use Rattle.urb_sqlite.proofs.Common.{HasCleanDisk, err_from_is_err_and, state}
 use Rattle.urb_sqlite.proofs.TableReadings.{earlier}
 use Rattle.urb_sqlite.proofs.TableOpenings.{opened, unprepared, unread}
 use Rattle.urb_sqlite.proofs.records.open_part.Goals as goal

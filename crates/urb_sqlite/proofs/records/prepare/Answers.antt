@@ -1,13 +1,8 @@
-use Rattle.std.proofs.Common.{rules, ◌≡◌, false, inl, inr, [], Ok, subst, sym}
-use Rattle.sqlite.specs.Effect.{Database}
-use Rattle.sqlite.specs.Held.{state}
-use Rattle.sqlite.specs.State.{Executes}
-use Rattle.urb_sqlite.specs.declared.sql.Part.{Part}
-use Rattle.urb_sqlite.specs.internal.JournalStatements.{create_of, name_of}
-use Rattle.urb_sqlite.specs.OpenJournal.{AddsTable}
-use Rattle.urb_sqlite.proofs.KeptRecords.{left_by_err, keeps_if_left}
+use Rattle.urb_sqlite.proofs.Common.{AddsTable, Database, Executes, Ok, Part, [], create_of, false}
+use Rattle.urb_sqlite.proofs.Common.{inl, inr, name_of, rules, state, subst, sym, ◌≡◌}
+use Rattle.urb_sqlite.proofs.KeptRecords.{keeps_if_left, left_by_err}
 use Rattle.urb_sqlite.proofs.StatementTexts.{Makes, create_parsed}
-use Rattle.urb_sqlite.proofs.CreateStatement.{creates, creates_at_most, creates_apart}
+use Rattle.urb_sqlite.proofs.CreateStatement.{creates, creates_apart, creates_at_most}
 use Rattle.urb_sqlite.proofs.CreateStatement.{creates_nothing}
 use Rattle.urb_sqlite.proofs.records.prepare.Goals as goal
 

@@ -1,10 +1,9 @@
-use Rattle.std.proofs.Common.{◌≡◌, ◌+◌, length, arith}
-use Rattle.std.proofs.lemmas.Result.{IfOk-weaker, err_from_is_err_and}
-use Rattle.sqlite.specs.Held.{state}
+use Rattle.urb_sqlite.proofs.Common.{IfOk-weaker, arith, err_from_is_err_and, length, state, ◌+◌}
+use Rattle.urb_sqlite.proofs.Common.{◌≡◌}
 use Rattle.urb_sqlite.proofs.KeptRecords.{shut_before}
 use Rattle.urb_sqlite.proofs.StoredRows.{first_read}
-use Rattle.urb_sqlite.proofs.TableReadings.{left_then, survives_both, still_there, earlier}
-use Rattle.urb_sqlite.proofs.TableReadings.{stands_when_read, second_is_read, safe_after}
+use Rattle.urb_sqlite.proofs.TableReadings.{earlier, left_then, safe_after, second_is_read}
+use Rattle.urb_sqlite.proofs.TableReadings.{stands_when_read, still_there, survives_both}
 use Rattle.urb_sqlite.proofs.records.read.Goals as goal
 
 pub returns-in_err-records-clause-sound : goal.returns-in_err-records-clause-sound

@@ -1,8 +1,5 @@
-use Rattle.std.proofs.Common.{refl}
-use Rattle.std.proofs.lemmas.Result.{IfOk-weaker, err_from_is_err_and}
-use Rattle.sqlite.specs.Held.{state}
-use Rattle.urb_sqlite.specs.OpenJournal.{IsTakenOver}
-use Rattle.urb_sqlite.proofs.AcceptedOpenings.{when_ok, kept_over, taken_over}
+use Rattle.urb_sqlite.proofs.Common.{IfOk-weaker, IsTakenOver, err_from_is_err_and, refl, state}
+use Rattle.urb_sqlite.proofs.AcceptedOpenings.{kept_over, taken_over, when_ok}
 use Rattle.urb_sqlite.proofs.RefusedOpenings.{first_given_back, second_given_back, when_both_err}
 use Rattle.urb_sqlite.proofs.records.take_over.Goals as goal
 

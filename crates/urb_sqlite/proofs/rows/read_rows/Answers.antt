@@ -1,15 +1,12 @@
-use Rattle.std.proofs.Common.{◌≡◌, [], ◌∷◌, List, length-append, Ok, Err}
-use Rattle.std.proofs.Common.{Some, refl, sym, ap, ◌∙◌, arith, rules, option_copied}
-use Rattle.sqlite.specs.Order.{Row}
-use Rattle.sqlite.specs.State.{HasCleanDisk, Shown}
-use Rattle.sqlite.specs.Held.{state}
-use Rattle.urb_sqlite.specs.internal.JournalStatements.{select_of}
-use Rattle.urb_sqlite.specs.RowReadings.{read_from, record_at}
+use Rattle.urb_sqlite.proofs.Common.{Err, HasCleanDisk, List, Ok, Row, Some, [], ap, arith}
+use Rattle.urb_sqlite.proofs.Common.{length-append, option_copied, read_from, record_at, refl}
+use Rattle.urb_sqlite.proofs.Common.{rules, select_of, state, sym, ◌∙◌, ◌∷◌, ◌≡◌}
+use Rattle.sqlite.specs.State.{Shown}
 use Rattle.urb_sqlite.specs.declared.rows.TableFault.TheVariants.{BadRow}
 use Rattle.urb_sqlite.proofs.SpelledRows.{found_in}
-use Rattle.urb_sqlite.proofs.TableReadings.{survives_both, earlier}
-use Rattle.urb_sqlite.proofs.CursorReads.{start_stops, reads_none, refused_stops, refused_left}
-use Rattle.urb_sqlite.proofs.CursorReads.{reads_on, meets_bad, reads_all, on_err}
+use Rattle.urb_sqlite.proofs.TableReadings.{earlier, survives_both}
+use Rattle.urb_sqlite.proofs.CursorReads.{meets_bad, on_err, reads_all, reads_none, reads_on}
+use Rattle.urb_sqlite.proofs.CursorReads.{refused_left, refused_stops, start_stops}
 use Rattle.urb_sqlite.proofs.rows.read_rows.Goals as goal
 
 pub returns-in_err-rows-clause-left : goal.returns-in_err-rows-clause-left

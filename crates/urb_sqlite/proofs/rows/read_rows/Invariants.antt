@@ -1,6 +1,4 @@
-use Rattle.std.proofs.Common.{◌≡◌, ◌+◌, ◌-◌, length}
-use Rattle.sqlite.specs.State.{HasCleanDisk, Survives}
-use Rattle.sqlite.specs.Held.{state}
+use Rattle.urb_sqlite.proofs.Common.{HasCleanDisk, Survives, length, state, ◌+◌, ◌-◌, ◌≡◌}
 use Rattle.urb_sqlite.proofs.CursorReads.{HasReadTo}
 use Rattle.urb_sqlite.proofs.rows.read_rows.Given as goal
 

@@ -1,9 +1,7 @@
-use Rattle.std.proofs.Common.{◌≡◌, arith, rules, sym, subst, take_all, ◌∙◌}
-use Rattle.sqlite.specs.State.{HasCleanDisk, Survives}
-use Rattle.sqlite.specs.Held.{state}
+use Rattle.urb_sqlite.proofs.Common.{FillsTo, HasCleanDisk, IsFilled, IsFilling, Survives, arith}
+use Rattle.urb_sqlite.proofs.Common.{rules, state, subst, sym, take_all, ◌∙◌, ◌≡◌}
 use Rattle.urb_stable.proofs.AppendedElements.{take-next}
-use Rattle.urb_sqlite.specs.internal.TransactionChanges.{FillsTo, IsFilled, IsFilling}
-use Rattle.urb_sqlite.proofs.TableReadings.{survives_both, earlier}
+use Rattle.urb_sqlite.proofs.TableReadings.{earlier, survives_both}
 use Rattle.urb_sqlite.proofs.TransactionRecords.{filled, filled_survives, filling_on}
 use Rattle.urb_sqlite.proofs.sql.insert_all.Goals as goal
 

@@ -1,7 +1,4 @@
-use Rattle.std.proofs.Common.{◌≡◌, ◌+◌, take}
-use Rattle.sqlite.specs.State.{HasCleanDisk, Survives}
-use Rattle.sqlite.specs.Held.{state}
-use Rattle.urb_sqlite.specs.internal.TransactionChanges.{IsFilling}
+use Rattle.urb_sqlite.proofs.Common.{HasCleanDisk, IsFilling, Survives, state, take, ◌+◌, ◌≡◌}
 use Rattle.urb_sqlite.proofs.sql.insert_all.Given as goal
 
 -- the rows so far were added, and nothing was committed

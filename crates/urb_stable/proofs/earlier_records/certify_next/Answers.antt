@@ -1,5 +1,4 @@
-use Rattle.std.proofs.Common.{[], ap, ◌∷◌}
-use Rattle.urb_stable.specs.Records.{cert}
+use Rattle.urb_stable.proofs.Common.{[], ap, cert, ◌∷◌}
 use Rattle.urb_stable.proofs.EarlierFacts.{names-kept, names-more, one-name}
 use Rattle.urb_stable.proofs.earlier_records.certify_next.Goals as goal
 

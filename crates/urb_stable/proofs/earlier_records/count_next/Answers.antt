@@ -1,7 +1,4 @@
-use Rattle.std.proofs.Common.{ap, arith, sym, take, ◌∙◌, ◌≡◌}
-use Rattle.urb_names.specs.LabelsAndContents.{Label}
-use Rattle.urb_names.specs.Pairs.{own}
-use Rattle.urb_stable.specs.Records.{pend}
+use Rattle.urb_stable.proofs.Common.{Label, ap, arith, own, pend, sym, take, ◌∙◌, ◌≡◌}
 use Rattle.urb_stable.proofs.EarlierFacts.{count-certificate, count-other, count-own, own-room}
 use Rattle.urb_stable.proofs.earlier_records.count_next.Goals as goal
 

@@ -1,5 +1,4 @@
-use Rattle.std.proofs.Common.{length, refl, take}
-use Rattle.std.proofs.lemmas.Option.{slice_get_read}
+use Rattle.urb_stable.proofs.Common.{length, refl, slice_get_read, take}
 use Rattle.urb_stable.proofs.EarlierFacts.{has-told, names-next, told-more}
 use Rattle.urb_stable.proofs.earlier_records.tell_next.Goals as goal
 

@@ -1,10 +1,6 @@
-use Rattle.std.proofs.Common.{rules, tests, ◌∙◌}
+use Rattle.urb_stable.proofs.Common.{NodeImage, has_pair, length-filter, pend, rules, tests, ◌∙◌}
 use Rattle.std.proofs.lemmas.Iterator.{YieldsList-from_slice}
 use Rattle.std.proofs.lemmas.Iterator.Consumers.{YieldsList-from_filter, count_from_yields_List}
-use Rattle.std.proofs.lemmas.List.Sums.{length-filter}
-use Rattle.urb_names.specs.Pairs.{has_pair}
-use Rattle.urb_stable.specs.internal.NumberedImages.{NodeImage}
-use Rattle.urb_stable.specs.Records.{pend}
 use Rattle.urb_stable.proofs.ImageCounts.{count-images}
 use Rattle.urb_stable.proofs.fitting.count_holders.Goals as goal
 

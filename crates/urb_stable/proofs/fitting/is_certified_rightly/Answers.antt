@@ -1,7 +1,5 @@
-use Rattle.std.proofs.Common.{ap, map, sym, take, ◌∙◌}
-use Rattle.urb_stable.specs.Entries.{Entry}
+use Rattle.urb_stable.proofs.Common.{Entry, ap, image_of, map, sym, take, ◌∙◌}
 use Rattle.urb_stable.specs.Fitting.{keeps_d}
-use Rattle.urb_stable.specs.Images.{image_of}
 use Rattle.urb_stable.proofs.fitting.is_certified_rightly.Goals as goal
 
 pub returns-in-PendCert : goal.returns-in-PendCert

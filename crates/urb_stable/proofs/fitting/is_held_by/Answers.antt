@@ -1,8 +1,5 @@
-use Rattle.std.proofs.Common.{List, ap, length, refl, sym, ℕ, ◌-◌, ◌∙◌}
-use Rattle.std.proofs.lemmas.Option.{slice_get_read}
-use Rattle.urb_names.specs.Pairs.{has_pair}
-use Rattle.urb_stable.specs.Entries.{Entry}
-use Rattle.urb_stable.specs.Records.{pend}
+use Rattle.urb_stable.proofs.Common.{Entry, List, ap, has_pair, length, pend, refl, slice_get_read}
+use Rattle.urb_stable.proofs.Common.{sym, ℕ, ◌-◌, ◌∙◌}
 use Rattle.urb_stable.proofs.FirstMisfits.{image-of}
 use Rattle.urb_stable.proofs.fitting.is_held_by.Goals as goal
 

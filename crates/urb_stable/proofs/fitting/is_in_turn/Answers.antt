@@ -1,8 +1,5 @@
-use Rattle.std.proofs.Common.{ap, length, not, take, ℕ, ◌==◌, ◌∙◌}
-use Rattle.urb_names.specs.LabelsAndContents.{Label}
-use Rattle.urb_names.specs.Pairs.{own}
-use Rattle.urb_stable.specs.internal.EarlierRecords.{same_client}
-use Rattle.urb_stable.specs.Records.{pend}
+use Rattle.urb_stable.proofs.Common.{Label, ap, length, not, own, pend, same_client, take, ℕ, ◌==◌}
+use Rattle.urb_stable.proofs.Common.{◌∙◌}
 use Rattle.urb_stable.proofs.FirstMisfits.{own-turn, turn-clients}
 use Rattle.urb_stable.proofs.fitting.is_in_turn.Goals as goal
 

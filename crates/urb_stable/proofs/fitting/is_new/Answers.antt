@@ -1,5 +1,4 @@
-use Rattle.std.proofs.Common.{sym, take, ◌∙◌}
-use Rattle.std.proofs.lemmas.Bool.{false≢true}
+use Rattle.urb_stable.proofs.Common.{false≢true, sym, take, ◌∙◌}
 use Rattle.urb_stable.proofs.FirstMisfits.{certificate-new}
 use Rattle.urb_stable.proofs.fitting.is_new.Goals.{else-is_in_range, then-is_in_range}
 use Rattle.urb_stable.proofs.fitting.is_new.Goals as goal

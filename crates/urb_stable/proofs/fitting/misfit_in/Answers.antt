@@ -1,13 +1,7 @@
-use Rattle.std.proofs.Common.{List, None, Option, Some, ap, length, map, refl, slice_get}
-use Rattle.std.proofs.Common.{slice_index_or, subst, sym, take, ◌<◌, ◌∙◌, ◌≡◌, ◌≤◌}
-use Rattle.std.proofs.lemmas.Option.{slice_get_read}
-use Rattle.std.specs.Prelude.{option_map}
-use Rattle.urb_names.specs.LabelsAndContents.{Label}
-use Rattle.urb_names.specs.declared.refusal.Rule.{Rule}
-use Rattle.urb_stable.specs.Entries.{Entry, name_of}
-use Rattle.urb_stable.specs.Fitting.{broken, first_of_all}
-use Rattle.urb_stable.specs.Images.{image_of}
-use Rattle.urb_stable.specs.declared.fitting.Misfit.{Misfit}
+use Rattle.urb_stable.proofs.Common.{Entry, Label, List, Misfit, None, Option, Rule, Some, ap}
+use Rattle.urb_stable.proofs.Common.{broken, first_of_all, image_of, length, map, name_of}
+use Rattle.urb_stable.proofs.Common.{option_map, refl, slice_get, slice_get_read, slice_index_or}
+use Rattle.urb_stable.proofs.Common.{subst, sym, take, ◌<◌, ◌∙◌, ◌≡◌, ◌≤◌}
 use Rattle.urb_stable.proofs.FirstMisfits.{broken-first, found, passed, record-none, record-step}
 use Rattle.urb_stable.proofs.fitting.misfit_in.Goals as goal
 

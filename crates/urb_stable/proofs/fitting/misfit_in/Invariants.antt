@@ -1,6 +1,5 @@
-use Rattle.std.proofs.Common.{[], drop, map, take, ◌≡◌}
-use Rattle.urb_stable.specs.Fitting.{first_of_all, misfits_behind}
-use Rattle.urb_stable.specs.Images.{image_of}
+use Rattle.urb_stable.proofs.Common.{[], drop, first_of_all, image_of, map, misfits_behind, take}
+use Rattle.urb_stable.proofs.Common.{◌≡◌}
 use Rattle.urb_stable.proofs.fitting.misfit_in.Given as goal
 
 abbrev pub invariant-loop-i : goal.invariant-loop-i

@@ -1,8 +1,6 @@
-use Rattle.std.proofs.Common.{ap, length, refl, ◌∙◌}
-use Rattle.std.proofs.lemmas.Option.{slice_get_read}
-use Rattle.std.specs.BTreeMap as tree
-use Rattle.urb_stable.specs.internal.Indexes.{by_name}
+use Rattle.urb_stable.proofs.Common.{ap, by_name, length, refl, slice_get_read, ◌∙◌}
 use Rattle.urb_stable.proofs.IndexGrowth.{index-certificate, index-next}
+use Rattle.std.specs.BTreeMap as tree
 use Rattle.urb_stable.proofs.index.index_next.Goals as goal
 
 pub returns-in-Cert : goal.returns-in-Cert

@@ -1,5 +1,4 @@
-use Rattle.std.proofs.Common.{ap, sym, [], ◌++◌, ◌∙◌, ◌∷◌}
-use Rattle.std.proofs.lemmas.List.{take_all}
+use Rattle.urb_stable.proofs.Common.{[], ap, sym, take_all, ◌++◌, ◌∙◌, ◌∷◌}
 use Rattle.urb_stable.proofs.AppendedElements.{take-next}
 use Rattle.urb_stable.proofs.memory.copy_all.Goals as goal
 

@@ -1,8 +1,5 @@
-use Rattle.std.proofs.Common.{arith, subst}
-use Rattle.std.specs.List.{All}
-use Rattle.std.proofs.lemmas.List.{take_all}
+use Rattle.urb_stable.proofs.Common.{All, IsEntry, arith, subst, take_all}
 use Rattle.std.proofs.lemmas.List.Elements.{All-more}
-use Rattle.urb_stable.specs.Entries.{IsEntry}
 use Rattle.urb_stable.proofs.record.recall_records.Goals as goal
 
 pub loop-record-preserved : goal.loop-record-preserved

@@ -1,6 +1,4 @@
-use Rattle.std.proofs.Common.{take}
-use Rattle.std.specs.List.{All}
-use Rattle.urb_stable.specs.Entries.{IsEntry}
+use Rattle.urb_stable.proofs.Common.{All, IsEntry, take}
 use Rattle.urb_stable.proofs.record.recall_records.Given as goal
 
 -- all records so far are within their limits

@@ -1,8 +1,6 @@
-use Rattle.std.proofs.Common.{◌≡◌, ◌≤◌, ◌<◌, ◌+◌, ◌==◌, ◌&&◌, ◌||◌, true, false, not, arith, rules}
-use Rattle.std.proofs.Common.{ap, sym, ◌∙◌}
-use Rattle.std.proofs.lemmas.Bool.{or_left}
-use Rattle.urb_names.specs.Acknowledgements.{acked}
-use Rattle.urb_stubborn.proofs.DueNames.{due_from, due_start, due_next, due_end}
+use Rattle.urb_stubborn.proofs.Common.{acked, ap, arith, false, not, or_left, rules, sym, true}
+use Rattle.urb_stubborn.proofs.Common.{◌&&◌, ◌+◌, ◌<◌, ◌==◌, ◌||◌, ◌∙◌, ◌≡◌, ◌≤◌}
+use Rattle.urb_stubborn.proofs.DueNames.{due_end, due_from, due_next, due_start}
 use Rattle.urb_stubborn.proofs.due.is_due.Goals as goal
 
 pub loop-number-init : goal.loop-number-init

@@ -1,5 +1,4 @@
-use Rattle.std.proofs.Common.{◌≡◌}
-use Rattle.urb_names.specs.CarriedPackets.{is_due}
+use Rattle.urb_stubborn.proofs.Common.{is_due, ◌≡◌}
 use Rattle.urb_stubborn.proofs.DueNames.{due_from}
 use Rattle.urb_stubborn.proofs.due.is_due.Given as goal
 

@@ -1,6 +1,4 @@
-use Rattle.std.proofs.Common.{◌≡◌, ◌-◌, ◌<◌, ◌≤◌, ℕ, false}
-use Rattle.urb_names.specs.CarriedPackets.{is_due}
-use Rattle.urb_names.specs.Names.{name}
+use Rattle.urb_stubborn.proofs.Common.{false, is_due, name, ℕ, ◌-◌, ◌<◌, ◌≡◌, ◌≤◌}
 use Rattle.urb_stubborn.proofs.due.settle_from.Given as goal
 
 -- no name is due so far

@@ -1,11 +1,9 @@
-use Rattle.std.proofs.Common.{ℕ, ◌≡◌, ◌≢◌, ◌+◌, ◌-◌, ◌==◌, Some, not}
-use Rattle.std.proofs.Common.{arith, rules, ap, ap₂, ◌∙◌, eq-eqb, ne_eqb}
-use Rattle.urb_names.specs.LabelsAndContents.{Content, Label}
-use Rattle.urb_names.specs.CarriedPackets.{is_heard_of, others}
-use Rattle.urb_names.specs.declared.flags.Flags.{Flags}
-use Rattle.urb_stubborn.proofs.SentPackets.{packet, sent_to, not_sent_to, others_grow}
+use Rattle.urb_stubborn.proofs.Common.{Content, Flags, Label, Some, ap, ap₂, arith, eq-eqb}
+use Rattle.urb_stubborn.proofs.Common.{is_heard_of, ne_eqb, not, others, rules, ℕ, ◌+◌, ◌-◌, ◌==◌}
+use Rattle.urb_stubborn.proofs.Common.{◌∙◌, ◌≡◌, ◌≢◌}
+use Rattle.urb_stubborn.proofs.SentPackets.{not_sent_to, others_grow, packet, sent_to}
+use Rattle.urb_stubborn.proofs.outbox.push_to_others.Goals.{else-ne, then-ne+in_ok-share+in_ok-push}
 use Rattle.urb_stubborn.proofs.outbox.push_to_others.Goals as goal
-use Rattle.urb_stubborn.proofs.outbox.push_to_others.Goals.{then-ne+in_ok-share+in_ok-push, else-ne}
 
 pub loop-number-preserved : goal.loop-number-preserved
 loop-number-preserved g c =

@@ -1,5 +1,4 @@
-use Rattle.std.proofs.Common.{◌≡◌, ◌++◌, ◌-◌}
-use Rattle.urb_names.specs.CarriedPackets.{to_others}
+use Rattle.urb_stubborn.proofs.Common.{to_others, ◌++◌, ◌-◌, ◌≡◌}
 use Rattle.urb_stubborn.proofs.outbox.push_to_others.Given as goal
 
 -- there is a packet to each other node before this one

@@ -1,13 +1,10 @@
-use Rattle.std.proofs.Common.{ℕ, Bool, ◌≡◌, ◌+◌, ◌-◌, ◌==◌, ◌&&◌, Some, true, false, not}
-use Rattle.std.proofs.Common.{filter, arith, rules, ap, ap₂, sym, ◌∙◌}
-use Rattle.urb_names.specs.Acknowledgements.{acked}
-use Rattle.urb_names.specs.LabelsAndContents.{Content, Label}
-use Rattle.urb_names.specs.CarriedPackets.{others}
-use Rattle.urb_names.specs.declared.flags.Flags.{Flags}
-use Rattle.urb_stubborn.proofs.SentPackets.{packet, sent_to, not_sent_to, some_grow}
-use Rattle.urb_stubborn.proofs.outbox.push_to_unheard.Goals as goal
-use Rattle.urb_stubborn.proofs.outbox.push_to_unheard.Goals.{then-is_unheard+in_ok-share+in_ok-push}
+use Rattle.urb_stubborn.proofs.Common.{Bool, Content, Flags, Label, Some, acked, ap, ap₂, arith}
+use Rattle.urb_stubborn.proofs.Common.{false, filter, not, others, rules, sym, true, ℕ, ◌&&◌, ◌+◌}
+use Rattle.urb_stubborn.proofs.Common.{◌-◌, ◌==◌, ◌∙◌, ◌≡◌}
+use Rattle.urb_stubborn.proofs.SentPackets.{not_sent_to, packet, sent_to, some_grow}
 use Rattle.urb_stubborn.proofs.outbox.push_to_unheard.Goals.{else-is_unheard}
+use Rattle.urb_stubborn.proofs.outbox.push_to_unheard.Goals.{then-is_unheard+in_ok-share+in_ok-push}
+use Rattle.urb_stubborn.proofs.outbox.push_to_unheard.Goals as goal
 
 pub loop-number-preserved : goal.loop-number-preserved
 loop-number-preserved g c =

@@ -1,6 +1,5 @@
-use Rattle.std.proofs.Common.{◌≡◌, ◌++◌, ◌-◌, false, filter, not}
-use Rattle.urb_names.specs.Acknowledgements.{acked}
-use Rattle.urb_names.specs.CarriedPackets.{others, packets_to}
+use Rattle.urb_stubborn.proofs.Common.{acked, false, filter, not, others, packets_to, ◌++◌, ◌-◌}
+use Rattle.urb_stubborn.proofs.Common.{◌≡◌}
 use Rattle.urb_stubborn.proofs.outbox.push_to_unheard.Given as goal
 
 -- there is a packet to each other node before this one that was not heard

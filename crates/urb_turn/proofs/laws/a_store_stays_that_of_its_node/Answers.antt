@@ -1,8 +1,7 @@
-use Rattle.std.proofs.Common.{subst, suc, sym}
-use Rattle.urb_group.specs.StoreContents.{IsLasting, IsStoreOf}
+use Rattle.urb_turn.proofs.Common.{IsLasting, IsStoreOf, subst, suc, sym}
 use Rattle.urb_turn.proofs.OtherNodes.{rested-leaves, rested-store}
-use Rattle.urb_turn.proofs.laws.a_store_stays_that_of_its_node.Goals as goal
 use Rattle.urb_world.proofs.recovery.EventPlans.{after-none}
+use Rattle.urb_turn.proofs.laws.a_store_stays_that_of_its_node.Goals as goal
 
 pub returns-clause-opened : goal.returns-clause-opened
 returns-clause-opened g c cluster i store secured got =

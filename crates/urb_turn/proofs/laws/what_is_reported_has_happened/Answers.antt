@@ -1,7 +1,6 @@
-use Rattle.std.proofs.Common.{Some, subst, ◌≡◌}
+use Rattle.urb_turn.proofs.Common.{Some, change_by, subst, ◌≡◌}
 use Rattle.urb_turn.proofs.ReportedChanges.{failure-reported, reported-so}
 use Rattle.urb_turn.proofs.laws.what_is_reported_has_happened.Goals as goal
-use Rattle.urb_turn.specs.Changes.{change_by}
 
 pub returns-clause-happened : goal.returns-clause-happened
 returns-clause-happened g c opened j before after came change turn same told =

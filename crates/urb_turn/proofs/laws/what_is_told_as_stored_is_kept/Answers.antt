@@ -1,7 +1,6 @@
-use Rattle.std.proofs.Common.{subst, ◌-◌}
+use Rattle.urb_turn.proofs.Common.{Ends, subst, ◌-◌}
 use Rattle.urb_turn.proofs.OtherNodes.{stored-in}
 use Rattle.urb_turn.proofs.laws.what_is_told_as_stored_is_kept.Goals as goal
-use Rattle.urb_turn.specs.Turns.{Ends}
 
 pub returns : goal.returns
 returns g c opened j before after came done turn said =

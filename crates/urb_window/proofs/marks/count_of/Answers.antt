@@ -1,9 +1,5 @@
-use Rattle.std.proofs.Common.{◌≡◌, ℕ, ◌≤◌, sym, ap, ◌∙◌, arith, count_by}
-use Rattle.urb_names.specs.declared.limits.TheConstants.{MAX_NODES}
-use Rattle.urb_names.specs.Nodes.{nodes}
-use Rattle.urb_names.specs.Acknowledgements.{acked}
-use Rattle.urb_window.specs.NodeMasks.{marks_in, has_bit}
-use Rattle.urb_window.specs.internal.EntryMasks.{mask_of}
+use Rattle.urb_window.proofs.Common.{MAX_NODES, acked, ap, arith, count_by, has_bit, marks_in}
+use Rattle.urb_window.proofs.Common.{mask_of, nodes, sym, ℕ, ◌∙◌, ◌≡◌, ◌≤◌}
 use Rattle.urb_window.proofs.NodeCounts.{count_alike}
 use Rattle.urb_window.proofs.MaskPairs.{acked_bit}
 use Rattle.urb_window.proofs.marks.count_of.Goals as goal

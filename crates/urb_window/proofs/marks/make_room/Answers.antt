@@ -1,11 +1,6 @@
-use Rattle.std.proofs.Common.{rules, ◌≡◌, ℕ, true, false, is_some, None, sym, ap, ◌∙◌}
-use Rattle.std.proofs.lemmas.Bool.{cond-true}
-use Rattle.urb_names.specs.Names.{has_name, name_lt}
-use Rattle.urb_names.specs.RisingLists.{placed}
-use Rattle.urb_window.specs.Entries.{names_of, value_of}
-use Rattle.urb_window.specs.Marks.{marks_of}
-use Rattle.urb_window.specs.NodeMasks.{marks_in}
-use Rattle.urb_window.specs.WindowSet.{WindowSet}
+use Rattle.urb_window.proofs.Common.{None, WindowSet, ap, cond-true, false, has_name, is_some}
+use Rattle.urb_window.proofs.Common.{marks_in, marks_of, name_lt, names_of, placed, rules, sym}
+use Rattle.urb_window.proofs.Common.{true, value_of, ℕ, ◌∙◌, ◌≡◌}
 use Rattle.urb_window.proofs.NameSearches.{has_value}
 use Rattle.urb_window.proofs.MaskClearings.{placed_empty, room_new}
 use Rattle.urb_window.proofs.marks.make_room.Goals as goal

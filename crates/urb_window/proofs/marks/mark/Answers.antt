@@ -1,12 +1,8 @@
-use Rattle.std.proofs.Common.{rules, ◌≡◌, ℕ, ◌+◌, ◌-◌, ◌^◌, true, false, is_some, sym, ap, ◌∙◌}
-use Rattle.urb_names.specs.RisingLists.{placed}
-use Rattle.urb_window.specs.Entries.{entry_lt, names_of, value_of, with_value}
-use Rattle.urb_window.specs.WindowSet.{WindowSet}
-use Rattle.urb_window.specs.NodeMasks.{has_bit}
-use Rattle.urb_window.specs.internal.EntryMasks.{mask_of}
+use Rattle.urb_window.proofs.Common.{WindowSet, ap, entry_lt, false, has_bit, has_name, is_some}
+use Rattle.urb_window.proofs.Common.{mask_of, names_of, placed, rules, sym, true, value_of}
+use Rattle.urb_window.proofs.Common.{with_value, ℕ, ◌+◌, ◌-◌, ◌^◌, ◌∙◌, ◌≡◌}
 use Rattle.urb_window.proofs.MaskPairs.{acked_bit}
-use Rattle.urb_window.proofs.NewMarks.{marks_more, changed_known, changed_new}
-use Rattle.urb_names.specs.Names.{has_name}
+use Rattle.urb_window.proofs.NewMarks.{changed_known, changed_new, marks_more}
 use Rattle.urb_window.proofs.NameSearches.{has_value}
 use Rattle.urb_window.proofs.MaskClearings.{mark_joins, room_known, room_new}
 use Rattle.urb_window.proofs.marks.mark.Goals as goal

@@ -1,7 +1,5 @@
-use Rattle.std.proofs.Common.{◌≡◌, ◌∙◌, ◌<◌, ◌+◌, ℕ, length, suc, [], arith, sym, ap, subst}
-use Rattle.std.proofs.lemmas.List.{length-map}
-use Rattle.urb_window.specs.Entries.{names_of, with_value}
-use Rattle.urb_window.specs.WindowSet.{WindowSet}
+use Rattle.urb_window.proofs.Common.{WindowSet, [], ap, arith, length, length-map, names_of, subst}
+use Rattle.urb_window.proofs.Common.{suc, sym, with_value, ℕ, ◌+◌, ◌<◌, ◌∙◌, ◌≡◌}
 use Rattle.urb_window.proofs.MaskClearings.{AreEmpty, name_stands, names_valued, none_marked}
 use Rattle.urb_window.proofs.MaskClearings.{one_more_empty, value_there}
 use Rattle.urb_window.proofs.marks.unmark_all.Goals as goal

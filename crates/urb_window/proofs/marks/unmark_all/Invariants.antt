@@ -1,5 +1,4 @@
-use Rattle.std.proofs.Common.{◌≡◌, length}
-use Rattle.urb_window.specs.Entries.{names_of}
+use Rattle.urb_window.proofs.Common.{length, names_of, ◌≡◌}
 use Rattle.urb_window.proofs.MaskClearings.{AreEmpty}
 use Rattle.urb_window.proofs.marks.unmark_all.Given as goal
 

@@ -1,6 +1,5 @@
-use Rattle.std.proofs.Common.{◌≡◌, ◌<◌, ◌≤◌, ◌+◌, ◌-◌, suc, count_by}
-use Rattle.urb_names.specs.Nodes.{nodes, numbers_from}
-use Rattle.urb_window.specs.NodeMasks.{has_bit}
+use Rattle.urb_window.proofs.Common.{count_by, has_bit, nodes, numbers_from, suc, ◌+◌, ◌-◌, ◌<◌}
+use Rattle.urb_window.proofs.Common.{◌≡◌, ◌≤◌}
 use Rattle.urb_window.proofs.mask.bits_up_to.Given as goal
 
 -- the nodes counted so far, and those still to count

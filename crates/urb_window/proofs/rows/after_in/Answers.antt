@@ -1,8 +1,6 @@
-use Rattle.std.proofs.Common.{◌≡◌, ◌≤◌, ◌<◌, ◌+◌, ◌-◌, nat_lt, rules, arith, ap, sym, ◌∙◌, find}
-use Rattle.std.proofs.Common.{get_or, length, Some, None, option_map}
-use Rattle.urb_names.specs.Names.{name_lt}
-use Rattle.urb_window.specs.Row.{pairs_of}
-use Rattle.urb_window.specs.RowEntries.{entries_from}
+use Rattle.urb_window.proofs.Common.{None, Some, ap, arith, entries_from, find, get_or, length}
+use Rattle.urb_window.proofs.Common.{name_lt, nat_lt, option_map, pairs_of, rules, sym, ◌+◌, ◌-◌}
+use Rattle.urb_window.proofs.Common.{◌<◌, ◌∙◌, ◌≡◌, ◌≤◌}
 use Rattle.urb_window.proofs.RemainingEntries.{after_beyond, after_found, after_missed, found_over}
 use Rattle.urb_window.proofs.rows.after_in.Goals as goal
 

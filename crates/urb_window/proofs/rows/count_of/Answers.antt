@@ -1,5 +1,4 @@
-use Rattle.std.proofs.Common.{◌≡◌, ◌<◌, ◌+◌, rules, arith, ap, length}
-use Rattle.urb_window.specs.Row.{pairs_of}
+use Rattle.urb_window.proofs.Common.{ap, arith, length, pairs_of, rules, ◌+◌, ◌<◌, ◌≡◌}
 use Rattle.urb_window.proofs.RemainingEntries.{at_end, count_at, entries_at}
 use Rattle.urb_window.proofs.rows.count_of.Goals as goal
 

@@ -1,8 +1,5 @@
-use Rattle.std.proofs.Common.{◌≡◌, ◌≤◌, ◌<◌, ◌+◌, ◌-◌, rules, ap, sym, ◌∙◌, length}
-use Rattle.std.proofs.Common.{Some, option_map}
-use Rattle.std.specs.Prelude.{slice_get}
-use Rattle.urb_names.specs.Names.{name}
-use Rattle.urb_window.specs.Row.{pairs_of}
+use Rattle.urb_window.proofs.Common.{Some, ap, length, name, option_map, pairs_of, rules, slice_get}
+use Rattle.urb_window.proofs.Common.{sym, ◌+◌, ◌-◌, ◌<◌, ◌∙◌, ◌≡◌, ◌≤◌}
 use Rattle.urb_window.proofs.NumberedValues.{pairs_over}
 use Rattle.urb_window.proofs.RemainingEntries.{entries_at, entry_behind, entry_within, pair_over}
 use Rattle.urb_window.proofs.rows.entry_of.Goals as goal

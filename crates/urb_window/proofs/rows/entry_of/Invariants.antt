@@ -1,7 +1,5 @@
-use Rattle.std.proofs.Common.{◌≡◌}
-use Rattle.std.specs.Prelude.{slice_get}
+use Rattle.urb_window.proofs.Common.{entries_from, slice_get, ◌≡◌}
 use Rattle.urb_window.proofs.RemainingEntries.{entries_at}
-use Rattle.urb_window.specs.RowEntries.{entries_from}
 use Rattle.urb_window.proofs.rows.entry_of.Given as goal
 
 -- the entry is among those of the remaining rows

@@ -1,9 +1,6 @@
-use Rattle.std.proofs.Common.{◌≡◌, ◌<◌, ◌++◌, ◌∷◌, [], rules, arith, ap, sym, ◌∙◌, subst, length}
-use Rattle.std.specs.List.{AllByRecursion}
-use Rattle.urb_names.specs.declared.limits.TheConstants.{MAX_SENDERS}
-use Rattle.urb_window.specs.internal.RowOperations.{IsRow}
-use Rattle.urb_window.specs.RowEntries.{entries_from}
-use Rattle.urb_window.specs.internal.SenderRows.{no_row}
+use Rattle.urb_window.proofs.Common.{AllByRecursion, IsRow, MAX_SENDERS, [], ap, arith}
+use Rattle.urb_window.proofs.Common.{entries_from, length, no_row, rules, subst, sym, ◌++◌, ◌<◌}
+use Rattle.urb_window.proofs.Common.{◌∙◌, ◌∷◌, ◌≡◌}
 use Rattle.urb_window.proofs.RowChanges.{all_more, more_rows}
 use Rattle.urb_window.proofs.rows.fill.Goals as goal
 

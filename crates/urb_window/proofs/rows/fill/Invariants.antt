@@ -1,8 +1,5 @@
-use Rattle.std.proofs.Common.{◌≡◌, ◌≤◌, ◌-◌, length}
-use Rattle.std.specs.List.{AllByRecursion}
-use Rattle.urb_names.specs.declared.limits.TheConstants.{MAX_SENDERS}
-use Rattle.urb_window.specs.internal.RowOperations.{IsRow}
-use Rattle.urb_window.specs.RowEntries.{entries_from}
+use Rattle.urb_window.proofs.Common.{AllByRecursion, IsRow, MAX_SENDERS, entries_from, length, ◌-◌}
+use Rattle.urb_window.proofs.Common.{◌≡◌, ◌≤◌}
 use Rattle.urb_window.proofs.rows.fill.Given as goal
 
 -- the same entries, in rows that are unchanged if there was one for each sender

@@ -1,7 +1,5 @@
-use Rattle.std.proofs.Common.{◌≡◌, ◌<◌, rules, arith, ap, sym, ◌∙◌, length, Some, None, option_map}
-use Rattle.std.specs.Prelude.{slice_get}
-use Rattle.urb_names.specs.Names.{name}
-use Rattle.urb_window.specs.Row.{pairs_of}
+use Rattle.urb_window.proofs.Common.{None, Some, ap, arith, length, name, option_map, pairs_of}
+use Rattle.urb_window.proofs.Common.{rules, slice_get, sym, ◌<◌, ◌∙◌, ◌≡◌}
 use Rattle.urb_window.proofs.NumberedValues.{pairs_over}
 use Rattle.urb_window.proofs.RemainingEntries.{first_within, no_first, pair_over}
 use Rattle.urb_window.proofs.rows.first_from.Goals as goal

@@ -1,5 +1,4 @@
-use Rattle.std.proofs.Common.{◌≡◌, ◌≤◌}
-use Rattle.std.specs.Prelude.{slice_get}
+use Rattle.urb_window.proofs.Common.{slice_get, ◌≡◌, ◌≤◌}
 use Rattle.urb_window.proofs.RemainingEntries.{entries_at}
 use Rattle.urb_window.proofs.rows.first_from.Given as goal
 

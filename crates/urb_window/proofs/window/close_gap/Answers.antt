@@ -1,7 +1,5 @@
-use Rattle.std.proofs.Common.{◌≡◌, ◌<◌, ◌+◌, ◌^◌, ◌∷◌, ◌++◌, [], rules, ap}
-use Rattle.std.proofs.Common.{sym, ◌∙◌, subst, false, length}
-use Rattle.urb_window.specs.Row.{counted_from}
-use Rattle.urb_window.specs.internal.RowOperations.{AreOver, holds_at}
+use Rattle.urb_window.proofs.Common.{AreOver, [], ap, counted_from, false, holds_at, length, rules}
+use Rattle.urb_window.proofs.Common.{subst, sym, ◌++◌, ◌+◌, ◌<◌, ◌^◌, ◌∙◌, ◌∷◌, ◌≡◌}
 use Rattle.urb_window.proofs.GapClosings.{IsMoved, gap_is, moves}
 use Rattle.urb_window.proofs.window.close_gap.Goals as goal
 

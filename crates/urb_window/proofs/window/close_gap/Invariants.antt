@@ -1,7 +1,6 @@
-use Rattle.std.proofs.Common.{◌≡◌, ◌<◌, ◌≤◌, ◌+◌, ◌^◌, ◌++◌, length, vec_len, vec_capacity}
-use Rattle.std.specs.VecDeque.{deque_len}
-use Rattle.urb_window.specs.Row.{counted_from}
-use Rattle.urb_window.specs.internal.RowOperations.{AreOver}
+use Rattle.urb_window.proofs.Common.{AreOver, counted_from, deque_len, length, ◌++◌, ◌+◌, ◌<◌, ◌^◌}
+use Rattle.urb_window.proofs.Common.{◌≡◌, ◌≤◌}
+use Rattle.std.proofs.Common.{vec_capacity, vec_len}
 use Rattle.urb_window.proofs.window.close_gap.Given as goal
 
 -- the same pairs, an upper part above the lower one, and space for all of them

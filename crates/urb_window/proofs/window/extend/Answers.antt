@@ -1,5 +1,4 @@
-use Rattle.std.proofs.Common.{◌≡◌, ◌+◌, ◌∷◌, ◌++◌, [], ap, ◌∙◌}
-use Rattle.urb_window.specs.Row.{counted_from}
+use Rattle.urb_window.proofs.Common.{[], ap, counted_from, ◌++◌, ◌+◌, ◌∙◌, ◌∷◌, ◌≡◌}
 use Rattle.urb_window.proofs.GapClosings.{extends}
 use Rattle.urb_window.proofs.window.extend.Goals as goal
 

@@ -1,6 +1,5 @@
 use Rattle.std.proofs.Common.{◌≡◌, ◌+◌, ◌++◌, ◌≤◌, [], reverse, vec_len, vec_capacity}
 use Rattle.urb_turn.specs.LastLoans.{AllBegin}
-use Rattle.urb_worker.specs.ServedStores.{numbers_from}
 use Rattle.urb_worker.specs.internal.ServedStores.{each}
 use Rattle.urb_worker.proofs.worker_group.make_inputs.Given as goal
 
@@ -12,8 +11,8 @@ invariant-loop-store g l = record {
   room : vec_len l.initial.stores ≤ vec_capacity l.inputs;
   taken : l.stores.items ++ reverse (each l.inputs.items (λ input. input.store))
       ≡ l.initial.stores.items;
-  numbered : reverse (each l.inputs.items (λ input. input.node)) ≡ numbers_from
-      (vec_len l.stores + 1) (vec_len l.inputs);
+  numbered : l.jobs.items ++ reverse (each l.inputs.items (λ input. input.node))
+      ≡ l.initial.jobs.items;
   begin : AllBegin l.tallies.items [];
 }
 

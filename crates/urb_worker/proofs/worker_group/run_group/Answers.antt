@@ -27,5 +27,5 @@ returns-clause-whole g c =
     (ends_whole_if g.S.Stable origin (length g.K.HouseName.base) stores run.result.0.0.items
     run.result.0.1.items run.result.1 c.close_hub-events.result.1 c.close_hub-events.result.0
     c.count_if.result c.count_if.ensures c.close_hub-events.ensures.closes
-    (sym c.in-Some.ensures.nodes.0 ∙ (c.requires.parts.1
+    (sym c.in-Some-open_hub.ensures.nodes.0 ∙ (c.requires.parts.1
     ∙ ap (λ group. group.size.n) c.requires.names.origin)) keeps)

@@ -6,7 +6,7 @@ abbrev pub invariant-loop-input : goal.invariant-loop-input
 invariant-loop-input g l = record {
   all : vec_len l.inputs + vec_len l.workers ≡ vec_len l.initial.inputs;
   room : vec_len l.initial.inputs ≤ vec_capacity l.workers;
-  queues : IfSome l.queues (λ kept. vec_len kept ≡ vec_len l.fn.queues);
+  queues : IfSome l.queues (λ kept. kept.items ≡ l.fn.queues.items);
   threads : IfSome l.queues (λ kept. AllThere l.workers.items);
   placed : each l.workers.items
       (λ worker. in_either worker (λ thread. thread.promise.came.value) (λ left. left.came))

@@ -1,16 +1,8 @@
 -- A stop inside a call that stores a tail may leave nothing of it, or all of it.
-use Rattle.std.proofs.Common.{List, [], arith, inl, inr, length, refl, subst, ⊎_elim, ◌∷◌}
-use Rattle.std.proofs.Common.{◌≤◌}
-use Rattle.std.proofs.lemmas.Bool.{false≢true}
-use Rattle.urb_names.proofs.OrderedPairs.{has_pair-first}
-use Rattle.urb_names.specs.LabelsAndContents.{Content, Label}
-use Rattle.urb_names.specs.Names.{name}
-use Rattle.urb_names.specs.declared.limits.TheConstants.{MAX_PAYLOAD}
-use Rattle.urb_stable.specs.Entries.{Entry}
-use Rattle.urb_stable.specs.Records.{pend}
-use Rattle.urb_world.specs.RunInvariant.{AreShort}
-use Rattle.urb_world.specs.internal.Examples.{pending}
-use Rattle.urb_world.specs.internal.Scripts.{message}
+use Rattle.urb_ahead_examples.proofs.Common.{AreShort, Content, Entry, Label, List, MAX_PAYLOAD, []}
+use Rattle.urb_ahead_examples.proofs.Common.{arith, false≢true, has_pair-first, inl, inr, length}
+use Rattle.urb_ahead_examples.proofs.Common.{message, name, pend, pending, refl, subst, ⊎_elim, ◌∷◌}
+use Rattle.urb_ahead_examples.proofs.Common.{◌≤◌}
 use Rattle.urb_ahead_examples.proofs.worked.stores_ahead.stops_inside_a_call.Goals as goal
 
 -- two records of node 1

@@ -1,25 +1,16 @@
 -- What a stop doesn't leave of all stores: less than a node's records, or those of another node.
-use Rattle.std.proofs.Common.{List, None, Some, [], ap, append-nil, arith, inl, inr, length, refl}
-use Rattle.std.proofs.Common.{slice_get, subst, suc, sym, true≢false, zero, ℕ, ⊎_elim, ◌++◌, ◌==◌}
-use Rattle.std.proofs.Common.{◌∙◌, ◌∷◌, ◌≡◌, ◌≤◌}
-use Rattle.std.proofs.lemmas.Bool.{false≢true}
-use Rattle.urb_names.proofs.OrderedPairs.{has_pair-first}
-use Rattle.urb_names.specs.LabelsAndContents.{Content, Label, Limits}
-use Rattle.urb_names.specs.Names.{name}
-use Rattle.urb_names.specs.declared.limits.TheConstants.{MAX_PAYLOAD}
-use Rattle.urb_node.specs.Part.{Node}
-use Rattle.urb_stable.specs.Entries.{Entry, name_of}
-use Rattle.urb_stable.specs.MemoryStores.{Memory, empty_memory}
-use Rattle.urb_stable.specs.Records.{pend}
-use Rattle.urb_stable.specs.internal.MemoryCalls.{with_record, with_records}
-use Rattle.urb_world.specs.MemoryStores.{in_memory}
-use Rattle.urb_world.specs.ProcessStops.{MayLeave}
-use Rattle.urb_world.specs.RunInvariant.{AreShort}
-use Rattle.urb_world.specs.StoresAhead.{IsOrStandsFor}
-use Rattle.urb_world.specs.World.{image_of, opened, started}
-use Rattle.urb_world.specs.internal.Examples.{limits, pending}
-use Rattle.urb_world.specs.internal.Scripts.{message}
-use Rattle.urb_group.specs.StoreContents.{LeavesAhead}
+use Rattle.urb_ahead_examples.proofs.Common.{AreShort, Content, Entry, IsOrStandsFor, Label}
+use Rattle.urb_ahead_examples.proofs.Common.{LeavesAhead, List, MAX_PAYLOAD, MayLeave, Node, None}
+use Rattle.urb_ahead_examples.proofs.Common.{Some, [], ap, append-nil, arith, empty_memory}
+use Rattle.urb_ahead_examples.proofs.Common.{false≢true, has_pair-first, image_of, in_memory, inl}
+use Rattle.urb_ahead_examples.proofs.Common.{inr, length, limits, message, name, opened, pend}
+use Rattle.urb_ahead_examples.proofs.Common.{pending, refl, slice_get, started, subst, suc, sym}
+use Rattle.urb_ahead_examples.proofs.Common.{true≢false, with_record, zero, ℕ, ⊎_elim, ◌++◌, ◌==◌}
+use Rattle.urb_ahead_examples.proofs.Common.{◌∙◌, ◌∷◌, ◌≡◌, ◌≤◌}
+use Rattle.urb_names.specs.LabelsAndContents.{Limits}
+use Rattle.urb_stable.specs.Entries.{name_of}
+use Rattle.urb_stable.specs.MemoryStores.{Memory}
+use Rattle.urb_stable.specs.internal.MemoryCalls.{with_records}
 use Rattle.urb_ahead_examples.proofs.worked.stores_ahead.stops_of_all_stores.Goals as goal
 
 none-some : (r : Entry) (rs : List Entry) → [] ≡ r ∷ rs → ⊥

@@ -1,17 +1,9 @@
 -- A stop of a store that is ahead leaves what it may leave of a call, or of one node.
-use Rattle.std.proofs.Common.{List, None, Some, [], arith, inl, inr, length, refl, subst, ⊎_elim}
-use Rattle.std.proofs.Common.{◌∷◌, ◌≤◌}
-use Rattle.std.proofs.lemmas.Bool.{false≢true}
-use Rattle.urb_names.proofs.OrderedPairs.{has_pair-first}
-use Rattle.urb_names.specs.LabelsAndContents.{Content, Label}
-use Rattle.urb_names.specs.Names.{name}
-use Rattle.urb_names.specs.declared.limits.TheConstants.{MAX_PAYLOAD}
-use Rattle.urb_node.specs.Part.{Storing, opened_node}
-use Rattle.urb_stable.specs.Entries.{Entry}
-use Rattle.urb_stable.specs.Records.{pend}
-use Rattle.urb_world.specs.RunInvariant.{AreShort}
-use Rattle.urb_world.specs.internal.Examples.{node_in, pending}
-use Rattle.urb_world.specs.internal.Scripts.{message}
+use Rattle.urb_ahead_examples.proofs.Common.{AreShort, Content, Entry, Label, List, MAX_PAYLOAD}
+use Rattle.urb_ahead_examples.proofs.Common.{None, Some, Storing, [], arith, false≢true}
+use Rattle.urb_ahead_examples.proofs.Common.{has_pair-first, inl, inr, length, message, name}
+use Rattle.urb_ahead_examples.proofs.Common.{node_in, opened_node, pend, pending, refl, subst}
+use Rattle.urb_ahead_examples.proofs.Common.{⊎_elim, ◌∷◌, ◌≤◌}
 use Rattle.urb_ahead_examples.proofs.worked.stores_ahead.stops_of_stores_ahead.Goals as goal
 
 -- two records of node 1

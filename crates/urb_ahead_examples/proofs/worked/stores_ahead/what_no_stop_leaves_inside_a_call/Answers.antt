@@ -1,21 +1,10 @@
 -- A stop inside a call that stores a tail leaves the whole tail or nothing of it.
-use Rattle.std.proofs.Common.{List, None, [], ap, arith, inl, inr, length, refl, replicate}
-use Rattle.std.proofs.Common.{subst, suc, sym, zero, ℕ, ⊎_elim, ◌∙◌, ◌∷◌, ◌≡◌, ◌≤◌}
-use Rattle.std.proofs.lemmas.Bool.{false≢true}
-use Rattle.urb_names.proofs.OrderedPairs.{has_pair-head}
-use Rattle.urb_names.specs.LabelsAndContents.{Content}
-use Rattle.urb_names.specs.Names.{name}
-use Rattle.urb_stable.specs.Entries.{Entry}
-use Rattle.urb_stable.specs.MemoryStores.{empty_memory}
-use Rattle.urb_stable.specs.Records.{pend}
-use Rattle.urb_stable.specs.StoredTogether.{IsContentsOrAll}
-use Rattle.urb_stable.specs.declared.record.Record.TheVariants.{Pend}
-use Rattle.urb_stable.specs.internal.MemoryCalls.{with_record}
-use Rattle.urb_world.specs.MemoryStores.{in_memory}
-use Rattle.urb_world.specs.RunInvariant.{AreShort}
-use Rattle.urb_world.specs.StoresAhead.{MayFollow}
-use Rattle.urb_world.specs.World.{started, stored}
-use Rattle.urb_world.specs.internal.Examples.{certified, filled, limits, pending}
+use Rattle.urb_ahead_examples.proofs.Common.{AreShort, Content, Entry, IsContentsOrAll, List}
+use Rattle.urb_ahead_examples.proofs.Common.{MayFollow, None, Pend, [], ap, arith, certified}
+use Rattle.urb_ahead_examples.proofs.Common.{empty_memory, false≢true, filled, has_pair-head}
+use Rattle.urb_ahead_examples.proofs.Common.{in_memory, inl, inr, length, limits, name, pend}
+use Rattle.urb_ahead_examples.proofs.Common.{pending, refl, replicate, started, stored, subst, suc}
+use Rattle.urb_ahead_examples.proofs.Common.{sym, with_record, zero, ℕ, ⊎_elim, ◌∙◌, ◌∷◌, ◌≡◌, ◌≤◌}
 use Rattle.urb_group.specs.StoreContents.{LeavesTogether}
 use Rattle.urb_ahead_examples.proofs.worked.stores_ahead.what_no_stop_leaves_inside_a_call.Goals as goal
 

@@ -1,18 +1,9 @@
 -- A stop leaves of a store that is ahead what it may leave of one node, or of a call.
-use Rattle.std.proofs.Common.{List, None, [], inl, inr, refl, subst, sym, ℕ, ⊎_elim, ◌∙◌}
-use Rattle.std.proofs.Common.{◌∷◌, ◌≡◌}
-use Rattle.std.proofs.lemmas.Bool.{false≢true}
-use Rattle.urb_node.specs.Part.{Node}
-use Rattle.urb_stable.specs.Entries.{Entry}
-use Rattle.urb_stable.specs.MemoryStores.{empty_memory}
-use Rattle.urb_stable.specs.StoredTogether.{IsContentsOrAll}
-use Rattle.urb_stable.specs.internal.MemoryCalls.{with_record}
-use Rattle.urb_world.specs.MemoryStores.{in_memory}
-use Rattle.urb_world.specs.ProcessStops.{MayLeave}
-use Rattle.urb_world.specs.StoresAhead.{IsOrStandsFor, MayFollow}
-use Rattle.urb_world.specs.World.{image_of, opened, started, stored}
-use Rattle.urb_world.specs.internal.Examples.{certified, limits, pending}
-use Rattle.urb_group.specs.StoreContents.{LeavesAhead}
+use Rattle.urb_ahead_examples.proofs.Common.{Entry, IsContentsOrAll, IsOrStandsFor, LeavesAhead}
+use Rattle.urb_ahead_examples.proofs.Common.{List, MayFollow, MayLeave, Node, None, [], certified}
+use Rattle.urb_ahead_examples.proofs.Common.{empty_memory, false≢true, image_of, in_memory, inl}
+use Rattle.urb_ahead_examples.proofs.Common.{inr, limits, opened, pending, refl, started, stored}
+use Rattle.urb_ahead_examples.proofs.Common.{subst, sym, with_record, ℕ, ⊎_elim, ◌∙◌, ◌∷◌, ◌≡◌}
 use Rattle.urb_ahead_examples.proofs.worked.stores_ahead.what_no_stop_of_stores_ahead_leaves.Goals as goal
 
 some-none : (r : Entry) (rs : List Entry) → r ∷ rs ≡ [] → ⊥

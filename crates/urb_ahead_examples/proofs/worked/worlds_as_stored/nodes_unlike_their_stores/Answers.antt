@@ -1,17 +1,9 @@
 -- A store never has a payload over the limit ahead.
-use Rattle.std.proofs.Common.{List, [], ap, arith, length, refl, replicate, subst, suc, sym, zero}
-use Rattle.std.proofs.Common.{ℕ, ◌∷◌, ◌≡◌, ◌≤◌}
-use Rattle.urb_names.proofs.OrderedPairs.{has_pair-head}
-use Rattle.urb_names.specs.LabelsAndContents.{Content}
-use Rattle.urb_names.specs.Names.{name}
-use Rattle.urb_node.specs.Part.{Node, opened_node}
-use Rattle.urb_stable.specs.Entries.{Entry}
-use Rattle.urb_stable.specs.Records.{pend}
-use Rattle.urb_stable.specs.declared.record.Record.TheVariants.{Pend}
-use Rattle.urb_world.specs.RunInvariant.{AreShort}
+use Rattle.urb_ahead_examples.proofs.Common.{AreShort, Content, Entry, List, Node, Pend, [], ap}
+use Rattle.urb_ahead_examples.proofs.Common.{arith, filled, has_pair-head, length, limits, name}
+use Rattle.urb_ahead_examples.proofs.Common.{opened_node, pend, refl, replicate, started, subst}
+use Rattle.urb_ahead_examples.proofs.Common.{suc, sym, zero, ℕ, ◌∷◌, ◌≡◌, ◌≤◌}
 use Rattle.urb_world.specs.StoresAhead.{StandsFor}
-use Rattle.urb_world.specs.World.{started}
-use Rattle.urb_world.specs.internal.Examples.{filled, limits}
 use Rattle.urb_ahead_examples.proofs.worked.worlds_as_stored.nodes_unlike_their_stores.Goals as goal
 
 count-replicated : (count : ℕ) (byte : ℕ) → length (replicate count byte) ≡ count

@@ -1,10 +1,7 @@
 -- A node that is neither as it was nor as its store has it.
-use Rattle.std.proofs.Common.{[], arith, ◌∷◌}
+use Rattle.urb_ahead_examples.proofs.Common.{IsOrStandsFor, [], arith, certified, image_of, limits}
+use Rattle.urb_ahead_examples.proofs.Common.{opened, opened_node, pending, started, ◌∷◌}
 use Rattle.std.proofs.lemmas.Grind.{common_steps}
-use Rattle.urb_node.specs.Part.{opened_node}
-use Rattle.urb_world.specs.StoresAhead.{IsOrStandsFor}
-use Rattle.urb_world.specs.World.{image_of, opened, started}
-use Rattle.urb_world.specs.internal.Examples.{certified, limits, pending}
 use Rattle.urb_ahead_examples.proofs.worked.worlds_as_stored.worlds_unlike_the_stores.Goals as goal
 
 misfit-of-three :

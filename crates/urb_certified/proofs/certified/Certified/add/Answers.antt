@@ -1,10 +1,7 @@
-use Rattle.std.proofs.Common.{rules, ap, sym, ◌∙◌, ◌≡◌, ◌<◌, false, vec_len, vec_capacity}
+use Rattle.urb_certified.proofs.Common.{Certificates, IsJoined, all_names, ap, false, has_name}
+use Rattle.urb_certified.proofs.Common.{name_lt, placed, rules, same_name, sym, vec_capacity}
+use Rattle.urb_certified.proofs.Common.{vec_len, ◌<◌, ◌∙◌, ◌≡◌}
 use Rattle.std.proofs.lemmas.Bool.{cond-false, ltb-true}
-use Rattle.urb_names.specs.Names.{has_name, name_lt, same_name}
-use Rattle.urb_names.specs.RisingLists.{placed}
-use Rattle.urb_certified.specs.Certificates.{Certificates}
-use Rattle.urb_certified.specs.Parts.{all_names}
-use Rattle.urb_certified.specs.internal.PartInvariant.{IsJoined}
 use Rattle.urb_certified.proofs.RisingSets.{set_with}
 use Rattle.urb_certified.proofs.NameOrder.{names_in_order}
 use Rattle.urb_certified.proofs.SenderReaches.{held_has}

@@ -1,7 +1,4 @@
-use Rattle.std.proofs.Common.{rules, ap, sym, ◌∙◌, ◌≡◌}
-use Rattle.urb_names.specs.Names.{has_name}
-use Rattle.urb_certified.specs.Certificates.{Certificates}
-use Rattle.urb_certified.specs.Parts.{all_names}
+use Rattle.urb_certified.proofs.Common.{Certificates, all_names, ap, has_name, rules, sym, ◌∙◌, ◌≡◌}
 use Rattle.urb_certified.proofs.SenderReaches.{held_has}
 use Rattle.urb_certified.proofs.certified.Certified.has.Goals as goal
 

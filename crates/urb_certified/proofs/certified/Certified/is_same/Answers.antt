@@ -1,5 +1,4 @@
-use Rattle.std.proofs.Common.{rules, ap, ap₂, sym, ◌∙◌, ◌≡◌}
-use Rattle.urb_certified.specs.Certificates.{Certificates}
+use Rattle.urb_certified.proofs.Common.{Certificates, ap, ap₂, rules, sym, ◌∙◌, ◌≡◌}
 use Rattle.urb_certified.proofs.SenderReaches.{held}
 use Rattle.urb_certified.proofs.EqualParts.{same_above, same_low}
 use Rattle.urb_certified.proofs.certified.Certified.is_same.Goals as goal

@@ -1,6 +1,4 @@
-use Rattle.std.proofs.Common.{rules, ap, sym, ◌∙◌, length}
-use Rattle.urb_names.specs.Release.{beginning}
-use Rattle.urb_certified.specs.Certificates.{Certificates}
+use Rattle.urb_certified.proofs.Common.{Certificates, ap, beginning, length, rules, sym, ◌∙◌}
 use Rattle.urb_certified.proofs.SenderReaches.{reach_low}
 use Rattle.urb_certified.proofs.certified.Certified.reach.Goals as goal
 

@@ -1,7 +1,5 @@
-use Rattle.std.proofs.Common.{subst}
-use Rattle.urb_names.specs.Names.{name_lt, same_name}
+use Rattle.urb_certified.proofs.Common.{all_names, name_lt, same_name, subst}
 use Rattle.urb_certified.specs.Certificates.{IsCertificates}
-use Rattle.urb_certified.specs.Parts.{all_names}
 use Rattle.urb_certified.proofs.RisingSets.{set_rises}
 use Rattle.urb_certified.proofs.NameOrder.{names_in_order}
 use Rattle.urb_certified.proofs.certified.Certified.recall.Goals as goal

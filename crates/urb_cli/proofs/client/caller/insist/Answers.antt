@@ -1,5 +1,4 @@
-use Rattle.std.proofs.Common.{arith}
-use Rattle.urb_client.specs.Requests.{asked_by}
+use Rattle.urb_cli.proofs.Common.{arith, asked_by}
 use Rattle.urb_cli.proofs.FailedCalls.{gives_up}
 use Rattle.urb_cli.proofs.client.caller.insist.Goals as goal
 

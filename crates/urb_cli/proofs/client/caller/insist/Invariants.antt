@@ -1,5 +1,4 @@
-use Rattle.urb_client.specs.Requests.{asked_by}
-use Rattle.urb_cli.specs.Calls.{Fails}
+use Rattle.urb_cli.proofs.Common.{Fails, asked_by}
 use Rattle.urb_cli.proofs.client.caller.insist.Given as goal
 
 -- no call so far had a response

@@ -1,5 +1,4 @@
-use Rattle.std.proofs.Common.{◌≡◌, ◌++◌, drop}
-use Rattle.std.specs.List.{flat_map}
+use Rattle.urb_cli.proofs.Common.{drop, flat_map, ◌++◌, ◌≡◌}
 use Rattle.urb_cli.specs.EntryForms.{escaped_byte}
 use Rattle.urb_cli.proofs.client.entry_form.push_escaped.Given as goal
 

@@ -1,6 +1,4 @@
-use Rattle.std.proofs.Common.{◌≡◌, ◌++◌, drop}
-use Rattle.std.specs.List.{flat_map}
-use Rattle.urb_cli.specs.EntryForms.{form_line}
+use Rattle.urb_cli.proofs.Common.{drop, flat_map, form_line, ◌++◌, ◌≡◌}
 use Rattle.urb_cli.proofs.client.entry_form.push_page_in.Given as goal
 
 -- what is pushed so far, and what is left

@@ -1,9 +1,6 @@
-use Rattle.std.proofs.Common.{arith, inl, inr, refl}
-use Rattle.std.proofs.lemmas.Result.{err_from_is_err_and}
-use Rattle.urb_cli.specs.EntryForms.{form_line}
-use Rattle.urb_cli.specs.internal.Following.{Goes}
+use Rattle.urb_cli.proofs.Common.{Goes, arith, err_from_is_err_and, form_line, inl, inr, refl}
 use Rattle.urb_cli.proofs.FollowedPages.{one_more_page, still_a_place}
-use Rattle.urb_cli.proofs.client.follow.follow_over.Goals.{in-Page+else-next-place, in-Older}
+use Rattle.urb_cli.proofs.client.follow.follow_over.Goals.{in-Older, in-Page+else-next-place}
 use Rattle.urb_cli.proofs.client.follow.follow_over.Goals.{in-Page+then-next-place+then-not-knows_wait}
 use Rattle.urb_cli.proofs.client.follow.follow_over.Goals as goal
 

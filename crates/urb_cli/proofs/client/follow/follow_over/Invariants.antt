@@ -1,7 +1,4 @@
-use Rattle.std.proofs.Common.{ℕ, ◌≡◌, ◌<◌, List, length}
-use Rattle.urb_client.specs.Responses.{Said}
-use Rattle.urb_cli.specs.EntryForms.{form_line}
-use Rattle.urb_cli.specs.Following.{Follows}
+use Rattle.urb_cli.proofs.Common.{Follows, List, Said, form_line, length, ℕ, ◌<◌, ◌≡◌}
 use Rattle.urb_cli.proofs.client.follow.follow_over.Given as goal
 
 -- the responses so far are printed, one in each turn

@@ -1,5 +1,4 @@
-use Rattle.std.proofs.Common.{◌≡◌, ◌++◌, drop}
-use Rattle.std.specs.List.{flat_map}
+use Rattle.urb_cli.proofs.Common.{drop, flat_map, ◌++◌, ◌≡◌}
 use Rattle.urb_cli.specs.ClientOutput.{entry_line}
 use Rattle.urb_cli.proofs.client.print.push_entries.Given as goal
 

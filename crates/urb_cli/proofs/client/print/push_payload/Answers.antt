@@ -1,5 +1,4 @@
-use Rattle.std.proofs.Common.{arith, rules}
-use Rattle.hex.specs.Hex.{IsBytes}
+use Rattle.urb_cli.proofs.Common.{IsBytes, arith, rules}
 use Rattle.urb_cli.proofs.PayloadDigits.{digits_of}
 use Rattle.urb_cli.proofs.client.print.push_payload.Goals as goal
 

@@ -1,5 +1,4 @@
-use Rattle.std.proofs.Common.{arith, inr, refl}
-use Rattle.std.proofs.lemmas.Result.{err_from_is_err_and}
+use Rattle.urb_cli.proofs.Common.{arith, err_from_is_err_and, inr, refl}
 use Rattle.urb_cli.proofs.PublishedTexts.{one_more_text}
 use Rattle.urb_cli.proofs.client.publish.publish_from.Goals as goal
 

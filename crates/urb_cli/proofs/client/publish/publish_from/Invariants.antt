@@ -1,6 +1,4 @@
-use Rattle.std.proofs.Common.{ℕ, List}
-use Rattle.urb_cli.specs.Calls.{Steps}
-use Rattle.urb_cli.specs.Publishing.{IsPublished}
+use Rattle.urb_cli.proofs.Common.{IsPublished, List, Steps, ℕ}
 use Rattle.urb_cli.proofs.client.publish.publish_from.Given as goal
 
 -- the texts so far are published

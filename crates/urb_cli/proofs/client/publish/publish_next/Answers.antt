@@ -1,5 +1,4 @@
-use Rattle.std.proofs.Common.{inl, refl, rules}
-use Rattle.std.proofs.lemmas.Result.{err_from_is_err_and}
+use Rattle.urb_cli.proofs.Common.{err_from_is_err_and, inl, refl, rules}
 use Rattle.urb_cli.proofs.client.publish.publish_next.Goals as goal
 
 pub returns-in_err-next_text-clause-err : goal.returns-in_err-next_text-clause-err

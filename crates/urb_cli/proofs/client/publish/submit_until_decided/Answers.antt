@@ -1,5 +1,4 @@
-use Rattle.std.proofs.Common.{inl, refl}
-use Rattle.std.proofs.lemmas.Result.{err_from_is_err_and}
+use Rattle.urb_cli.proofs.Common.{err_from_is_err_and, inl, refl}
 use Rattle.urb_cli.proofs.client.publish.submit_until_decided.Goals as goal
 
 pub returns-in_err-ask_to_decide-clause-err : goal.returns-in_err-ask_to_decide-clause-err

@@ -1,5 +1,4 @@
-use Rattle.std.proofs.Common.{rules}
-use Rattle.urb_options.specs.Addresses.{address_of}
+use Rattle.urb_cli.proofs.Common.{address_of, rules}
 use Rattle.urb_cli.proofs.NodeStatuses.{one_more_node}
 use Rattle.urb_cli.proofs.client.status.ask_each.Goals as goal
 

@@ -1,5 +1,4 @@
-use Rattle.urb_options.specs.Addresses.{address_of}
-use Rattle.urb_cli.specs.Asking.{AsksEach}
+use Rattle.urb_cli.proofs.Common.{AsksEach, address_of}
 use Rattle.urb_cli.specs.Statuses.{IsClientsEnd}
 use Rattle.urb_cli.proofs.client.status.ask_each.Given as goal
 

@@ -1,9 +1,5 @@
-use Rattle.std.proofs.Common.{List, ◌≤◌, length, ap, subst, take, arith, ◌∙◌}
-use Rattle.urb_names.specs.LabelsAndContents.{Content, Label}
-use Rattle.urb_client.specs.Listings.{listing_body}
-use Rattle.urb_client.specs.Pages.{ListsPage}
-use Rattle.urb_client.specs.declared.format.TheConstants.{LONGEST_FRAME}
-use Rattle.urb_client.specs.Responses.{Listing}
+use Rattle.urb_client.proofs.Common.{Content, LONGEST_FRAME, Label, List, Listing, ListsPage, ap}
+use Rattle.urb_client.proofs.Common.{arith, length, listing_body, subst, take, ◌∙◌, ◌≤◌}
 use Rattle.urb_client.proofs.PageLists.{lists_page}
 use Rattle.urb_client.proofs.response.Response.entries.Goals as goal
 

@@ -1,20 +1,10 @@
 -- What is stored at the opening, and what is not.
-use Rattle.std.proofs.Common.{List, [], false, refl, rules, subst, suc, sym, true, zero, ℕ, ◌++◌, ◌∷◌, ◌≡◌}
-use Rattle.urb_world.proofs.steps.Runs.{opened-kept}
-use Rattle.urb_world.specs.Acceptance.{HasStored}
-use Rattle.urb_group.specs.GroupViews.{IsSound, Shows, view_of}
-use Rattle.urb_world.specs.RecoveryPlans.{after}
-use Rattle.urb_world.specs.Step.{Event, run}
-use Rattle.urb_world.specs.World.{AreImages, image_of, opened}
-use Rattle.urb_world.specs.internal.Examples.{limits, pending}
-use Rattle.urb_world.specs.internal.Scripts.{message}
-use Rattle.urb_names.specs.Names.{name}
-use Rattle.urb_node.specs.NodeViews.{ShowsNode, no_view}
-use Rattle.urb_node.specs.Part.{opened_node}
-use Rattle.urb_show.specs.internal.ReaderExamples.{new_four}
+use Rattle.urb_desk.proofs.Common.{AreImages, Event, HasAccepted, HasStored, IsSound, List, Shows}
+use Rattle.urb_desk.proofs.Common.{ShowsNode, [], after, false, four, image_of, limits, message}
+use Rattle.urb_desk.proofs.Common.{name, new_four, no_view, opened, opened-kept, opened_node}
+use Rattle.urb_desk.proofs.Common.{pending, refl, rules, run, stored_four, subst, suc, sym, true}
+use Rattle.urb_desk.proofs.Common.{view_of, zero, ℕ, ◌++◌, ◌∷◌, ◌≡◌}
 use Rattle.urb_stable.specs.Entries.{Entry}
-use Rattle.urb_desk.specs.Desks.{HasAccepted}
-use Rattle.urb_turn.specs.internal.TurnExamples.{four, stored_four}
 use Rattle.urb_desk.proofs.worked.responses.accepted_messages.Goals as goal
 
 new_node : (p : ℕ) → ShowsNode (limits 4 10) p no_view (opened_node p [])

@@ -1,23 +1,14 @@
 -- A crash of a new node.
-use Rattle.std.proofs.Common.{List, None, Some, [], arith, if◌then◌else◌, length, refl, slice_get, subst, suc, zero, ℕ, ◌∷◌, ◌≡◌, ◌≤◌}
-use Rattle.urb_world.proofs.steps.Runs.{new-kept}
-use Rattle.urb_group.specs.GroupViews.{IsSound, Shows, view_of}
-use Rattle.urb_world.specs.RecoveryPlans.{after}
-use Rattle.urb_world.specs.Step.{Crash, Event, Restart, run, step, world_after}
-use Rattle.urb_world.specs.World.{World}
-use Rattle.urb_world.specs.internal.Examples.{limits}
-use Rattle.urb_names.specs.CarriedPackets.{Carried}
-use Rattle.urb_names.specs.LabelsAndContents.{Limits}
-use Rattle.urb_names.specs.Nodes.{is_node}
-use Rattle.urb_names.specs.declared.refusal.Refusal.TheVariants as refusal
-use Rattle.urb_node.specs.NodeViews.{ShowsNode, no_view}
-use Rattle.urb_node.specs.Part.{Down, Node, Ready, State, opened_node}
-use Rattle.urb_node.specs.Replies.{Refused, Up, WentDown}
-use Rattle.urb_node.specs.Steps.{comes_up, crashes, doubt, goes_down, is_down, refuses, restarts, says}
-use Rattle.urb_show.specs.internal.ReaderExamples.{new_four}
+use Rattle.urb_desk.proofs.Common.{Carried, Crash, Down, Event, HasCrashed, HasRestarted, IsSound}
+use Rattle.urb_desk.proofs.Common.{Limits, List, Node, None, Ready, Refused, Restart, Shows}
+use Rattle.urb_desk.proofs.Common.{ShowsNode, Some, Up, WentDown, World, [], after, arith, comes_up}
+use Rattle.urb_desk.proofs.Common.{crashes, doubt, four, goes_down, if◌then◌else◌, is_down, is_node}
+use Rattle.urb_desk.proofs.Common.{length, limits, new-kept, new_four, no_view, opened_node, refl}
+use Rattle.urb_desk.proofs.Common.{refuses, restarts, run, says, slice_get, step, subst, suc}
+use Rattle.urb_desk.proofs.Common.{view_of, world_after, zero, ℕ, ◌∷◌, ◌≡◌, ◌≤◌}
+use Rattle.urb_node.specs.Part.{State}
 use Rattle.urb_stable.specs.Entries.{Entry}
-use Rattle.urb_desk.specs.Desks.{HasCrashed, HasRestarted}
-use Rattle.urb_turn.specs.internal.TurnExamples.{four}
+use Rattle.urb_names.specs.declared.refusal.Refusal.TheVariants as refusal
 use Rattle.urb_desk.proofs.worked.responses.crashes_and_restarts.Goals as goal
 
 new_node : (p : ℕ) → ShowsNode (limits 4 10) p no_view (opened_node p [])

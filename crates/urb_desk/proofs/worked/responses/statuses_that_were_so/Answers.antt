@@ -1,28 +1,15 @@
 -- The status of a new node.
-use Rattle.std.proofs.Common.{List, None, Option, Some, [], ap, arith, if◌then◌else◌, length, refl, subst, suc, sym, zero, ℕ, ◌++◌, ◌∷◌, ◌≡◌}
-use Rattle.urb_client.specs.declared.response.NodeState.TheVariants as told
-use Rattle.urb_world.proofs.steps.Runs.{new-kept}
-use Rattle.urb_group.specs.GroupViews.{IsSound, Shows, view_of}
-use Rattle.urb_group.specs.ReportedStates.{state_of}
-use Rattle.urb_world.specs.Step.{Event, run}
-use Rattle.urb_world.specs.World.{stored}
-use Rattle.urb_group.specs.declared.state.State.TheVariants as state
+use Rattle.urb_desk.proofs.Common.{Content, Event, IsLedTo, IsSound, Label, Limits, List, None}
+use Rattle.urb_desk.proofs.Common.{Option, Ready, Shows, ShowsNode, Some, Status, TellsStatus}
+use Rattle.urb_desk.proofs.Common.{WasSo, [], ap, arith, four, if◌then◌else◌, is_node, length}
+use Rattle.urb_desk.proofs.Common.{limits, log, new-kept, new_four, new_status, no_view}
+use Rattle.urb_desk.proofs.Common.{opened_node, own, pend, refl, run, state_of, stored, subst, suc}
+use Rattle.urb_desk.proofs.Common.{sym, told_state, view_of, zero, ℕ, ◌++◌, ◌∷◌, ◌≡◌}
 use Rattle.urb_group.specs.declared.state.State.{State as Reported}
-use Rattle.urb_world.specs.internal.Examples.{limits}
-use Rattle.urb_names.specs.LabelsAndContents.{Content, Label, Limits}
-use Rattle.urb_names.specs.Nodes.{is_node}
-use Rattle.urb_names.specs.Pairs.{own}
-use Rattle.urb_node.specs.NodeViews.{ShowsNode, no_view}
-use Rattle.urb_node.specs.Part.{Ready, State, opened_node}
-use Rattle.urb_show.specs.Pasts.{IsLedTo}
-use Rattle.urb_show.specs.Statuses.{TellsStatus}
-use Rattle.urb_show.specs.declared.status.Status.{Status}
-use Rattle.urb_show.specs.internal.ReaderExamples.{new_four}
-use Rattle.urb_stable.specs.DeliveredLogs.{log}
+use Rattle.urb_node.specs.Part.{State}
 use Rattle.urb_stable.specs.Entries.{Entry}
-use Rattle.urb_stable.specs.Records.{pend}
-use Rattle.urb_desk.specs.Desks.{WasSo, told_state}
-use Rattle.urb_turn.specs.internal.TurnExamples.{four, new_status}
+use Rattle.urb_client.specs.declared.response.NodeState.TheVariants as told
+use Rattle.urb_group.specs.declared.state.State.TheVariants as state
 use Rattle.urb_desk.proofs.worked.responses.statuses_that_were_so.Goals as goal
 
 new_node : (p : ℕ) → ShowsNode (limits 4 10) p no_view (opened_node p [])

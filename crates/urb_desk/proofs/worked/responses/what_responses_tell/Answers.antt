@@ -1,36 +1,21 @@
 -- What is told of a new node, and of one that has stored its message.
-use Rattle.std.proofs.Common.{List, None, Option, Some, [], ap, arith, false, if◌then◌else◌, length, refl, rules, subst, suc, sym, true, zero, ℕ, ◌++◌, ◌∷◌, ◌≡◌}
-use Rattle.urb_client.specs.declared.response.NodeState.TheVariants as told
-use Rattle.urb_world.proofs.steps.Runs.{new-kept, opened-kept}
-use Rattle.urb_world.specs.Acceptance.{HasStored}
-use Rattle.urb_group.specs.GroupViews.{IsSound, Shows, view_of}
-use Rattle.urb_world.specs.RecoveryPlans.{after}
-use Rattle.urb_group.specs.ReportedStates.{state_of}
-use Rattle.urb_world.specs.Step.{Crash, Event, Restart, run, step, world_after}
-use Rattle.urb_world.specs.World.{AreImages, World, image_of, opened, stored}
-use Rattle.urb_group.specs.declared.state.State.TheVariants as state
+use Rattle.urb_desk.proofs.Common.{AreImages, Carried, Content, Crash, Down, Event, HasAccepted}
+use Rattle.urb_desk.proofs.Common.{HasCrashed, HasRestarted, HasStored, IsLedTo, IsSound, Label}
+use Rattle.urb_desk.proofs.Common.{Limits, List, Node, None, Option, Ready, Refused, Restart, Shows}
+use Rattle.urb_desk.proofs.Common.{ShowsNode, Some, Status, TellsStatus, Up, WasSo, WentDown, World}
+use Rattle.urb_desk.proofs.Common.{[], after, ap, arith, comes_up, crashes, doubt, false, four}
+use Rattle.urb_desk.proofs.Common.{goes_down, if◌then◌else◌, image_of, is_down, is_node, length}
+use Rattle.urb_desk.proofs.Common.{limits, log, message, name, new-kept, new_four, new_status}
+use Rattle.urb_desk.proofs.Common.{no_view, opened, opened-kept, opened_node, own, pend, pending}
+use Rattle.urb_desk.proofs.Common.{refl, refuses, restarts, rules, run, says, state_of, step}
+use Rattle.urb_desk.proofs.Common.{stored, stored_four, subst, suc, sym, told_state, true, view_of}
+use Rattle.urb_desk.proofs.Common.{world_after, zero, ℕ, ◌++◌, ◌∷◌, ◌≡◌}
 use Rattle.urb_group.specs.declared.state.State.{State as Reported}
-use Rattle.urb_world.specs.internal.Examples.{limits, pending}
-use Rattle.urb_world.specs.internal.Scripts.{message}
-use Rattle.urb_names.specs.CarriedPackets.{Carried}
-use Rattle.urb_names.specs.LabelsAndContents.{Content, Label, Limits}
-use Rattle.urb_names.specs.Names.{name}
-use Rattle.urb_names.specs.Nodes.{is_node}
-use Rattle.urb_names.specs.Pairs.{own}
-use Rattle.urb_names.specs.declared.refusal.Refusal.TheVariants as refusal
-use Rattle.urb_node.specs.NodeViews.{ShowsNode, no_view}
-use Rattle.urb_node.specs.Part.{Down, Node, Ready, State, opened_node}
-use Rattle.urb_node.specs.Replies.{Refused, Up, WentDown}
-use Rattle.urb_node.specs.Steps.{comes_up, crashes, doubt, goes_down, is_down, refuses, restarts, says}
-use Rattle.urb_show.specs.Pasts.{IsLedTo}
-use Rattle.urb_show.specs.Statuses.{TellsStatus}
-use Rattle.urb_show.specs.declared.status.Status.{Status}
-use Rattle.urb_show.specs.internal.ReaderExamples.{new_four}
-use Rattle.urb_stable.specs.DeliveredLogs.{log}
+use Rattle.urb_node.specs.Part.{State}
 use Rattle.urb_stable.specs.Entries.{Entry}
-use Rattle.urb_stable.specs.Records.{pend}
-use Rattle.urb_desk.specs.Desks.{HasAccepted, HasCrashed, HasRestarted, WasSo, told_state}
-use Rattle.urb_turn.specs.internal.TurnExamples.{four, new_status, stored_four}
+use Rattle.urb_client.specs.declared.response.NodeState.TheVariants as told
+use Rattle.urb_group.specs.declared.state.State.TheVariants as state
+use Rattle.urb_names.specs.declared.refusal.Refusal.TheVariants as refusal
 use Rattle.urb_desk.proofs.worked.responses.what_responses_tell.Goals as goal
 
 new_node : (p : ℕ) → ShowsNode (limits 4 10) p no_view (opened_node p [])

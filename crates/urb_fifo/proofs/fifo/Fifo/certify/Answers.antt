@@ -1,6 +1,5 @@
-use Rattle.std.proofs.Common.{arith, sym, ap, ◌∙◌, length, length-append}
-use Rattle.urb_fifo.specs.Delivery.{Delivery}
-use Rattle.urb_fifo.specs.NewReleases.{newly_released}
+use Rattle.urb_fifo.proofs.Common.{Delivery, ap, arith, length, length-append, newly_released, sym}
+use Rattle.urb_fifo.proofs.Common.{◌∙◌}
 use Rattle.urb_fifo.proofs.LogReleases.{certified_new, release_goes_on, release_stays}
 use Rattle.urb_fifo.proofs.fifo.Fifo.certify.Goals as goal
 

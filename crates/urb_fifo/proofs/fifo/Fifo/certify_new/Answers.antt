@@ -1,17 +1,11 @@
-use Rattle.std.proofs.Common.{arith, rules, refl, sym, ap, ap₂, ◌∙◌, ◌≡◌, ◌+◌, ◌-◌, ◌≤◌}
-use Rattle.std.proofs.Common.{false, Some, ◌++◌, suc, map, length, vec_len, vec_capacity}
-use Rattle.std.proofs.lemmas.Bool.{cond-false}
-use Rattle.urb_names.specs.LabelsAndContents.{Label}
-use Rattle.urb_names.specs.Names.{has_name, name, name_lt}
-use Rattle.urb_names.specs.Nodes.{numbers_from}
-use Rattle.urb_names.specs.RisingLists.{placed}
-use Rattle.urb_fifo.specs.Delivery.{Delivery, IsNameOf}
-use Rattle.urb_fifo.specs.NewReleases.{newly_released}
-use Rattle.urb_fifo.specs.LogFields.{view_of}
+use Rattle.urb_fifo.proofs.Common.{Delivery, IsNameOf, Label, Some, ap, ap₂, arith, cond-false}
+use Rattle.urb_fifo.proofs.Common.{false, has_name, length, map, name, name_lt, newly_released}
+use Rattle.urb_fifo.proofs.Common.{numbers_from, placed, refl, rules, suc, sym, vec_capacity}
+use Rattle.urb_fifo.proofs.Common.{vec_len, view_of, ◌++◌, ◌+◌, ◌-◌, ◌∙◌, ◌≡◌, ◌≤◌}
 use Rattle.urb_fifo.proofs.LogReleases.{certifying_new}
 use Rattle.urb_fifo.proofs.PromisedSpace.{kept_bigger, kept_certified, newly_count}
-use Rattle.urb_fifo.proofs.fifo.Fifo.certify_new.Goals as goal
 use Rattle.urb_fifo.proofs.fifo.Fifo.certify_new.Goals.{After-self-1}
+use Rattle.urb_fifo.proofs.fifo.Fifo.certify_new.Goals as goal
 
 pub returns-in_err-reserve-clause-roomy : goal.returns-in_err-reserve-clause-roomy
 returns-in_err-reserve-clause-roomy g c =

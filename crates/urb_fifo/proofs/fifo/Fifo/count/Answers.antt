@@ -1,7 +1,5 @@
-use Rattle.std.proofs.Common.{arith, ap, sym, ◌∙◌, ◌≡◌, ◌≤◌, length}
-use Rattle.urb_names.specs.Release.{part_of}
-use Rattle.urb_fifo.specs.Delivery.{Delivery}
-use Rattle.urb_fifo.specs.LogFields.{view_of}
+use Rattle.urb_fifo.proofs.Common.{Delivery, ap, arith, length, part_of, sym, view_of, ◌∙◌, ◌≡◌}
+use Rattle.urb_fifo.proofs.Common.{◌≤◌}
 use Rattle.urb_fifo.proofs.LogReleases.{part_within}
 use Rattle.urb_fifo.proofs.fifo.Fifo.count.Goals as goal
 

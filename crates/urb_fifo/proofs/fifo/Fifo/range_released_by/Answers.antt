@@ -1,7 +1,5 @@
-use Rattle.std.proofs.Common.{rules, ap, sym, ◌∙◌, ◌≡◌, ◌∷◌, length}
-use Rattle.urb_names.specs.Release.{beginning}
-use Rattle.urb_fifo.specs.Delivery.{Delivery}
-use Rattle.urb_fifo.specs.NewReleases.{newly_released}
+use Rattle.urb_fifo.proofs.Common.{Delivery, ap, beginning, length, newly_released, rules, sym, ◌∙◌}
+use Rattle.urb_fifo.proofs.Common.{◌∷◌, ◌≡◌}
 use Rattle.urb_fifo.proofs.PromisedSpace.{newly_kept}
 use Rattle.urb_fifo.proofs.fifo.Fifo.range_released_by.Goals as goal
 

@@ -1,8 +1,5 @@
-use Rattle.std.proofs.Common.{refl, ap, ◌∙◌, ◌≡◌, ◌-◌, suc, map}
-use Rattle.urb_names.specs.Names.{name}
-use Rattle.urb_names.specs.Nodes.{numbers_from}
-use Rattle.urb_fifo.specs.Delivery.{Delivery}
-use Rattle.urb_fifo.specs.NewReleases.{newly_released}
+use Rattle.urb_fifo.proofs.Common.{Delivery, ap, map, name, newly_released, numbers_from, refl, suc}
+use Rattle.urb_fifo.proofs.Common.{◌-◌, ◌∙◌, ◌≡◌}
 use Rattle.urb_fifo.proofs.PromisedSpace.{kept_bigger, kept_reserved}
 use Rattle.urb_fifo.proofs.fifo.Fifo.reserve.Goals as goal
 

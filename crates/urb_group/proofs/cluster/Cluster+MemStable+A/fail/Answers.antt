@@ -1,7 +1,4 @@
-use Rattle.std.proofs.Common.{subst}
-use Rattle.urb_group.specs.Commands.{reply_of}
-use Rattle.urb_group.specs.GroupViews.{GroupView, IsSound}
-use Rattle.urb_names.specs.LabelsAndContents.{IsLimits}
+use Rattle.urb_group.proofs.Common.{GroupView, IsLimits, IsSound, reply_of, subst}
 use Rattle.urb_group.proofs.stops.DraftPositions.{fails-in-place}
 use Rattle.urb_group.proofs.stops.StockedFailures.{fails-stocked}
 use Rattle.urb_group.proofs.stops.StoppedCalls.{fails-leaves}

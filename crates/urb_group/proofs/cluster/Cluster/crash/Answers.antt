@@ -1,8 +1,5 @@
-use Rattle.std.proofs.Common.{refl, rules, ◌≡◌}
+use Rattle.urb_group.proofs.Common.{Crash, IsRefused, Steps, WentDown, refl, rules, ◌≡◌}
 use Rattle.urb_group.proofs.calls.DraftsInCalls.{down-bounds, down-tied}
-use Rattle.urb_group.specs.GroupCalls.{IsRefused, Steps}
-use Rattle.urb_world.specs.Step.{Crash}
-use Rattle.urb_node.specs.Replies.{WentDown}
 use Rattle.urb_group.proofs.cluster.Cluster.crash.Goals as goal
 
 pub drop_draft-requires : goal.drop_draft-requires

@@ -1,9 +1,8 @@
-use Rattle.std.proofs.Common.{Err, ap, Ok, length, rules, subst, sym, ◌∙◌, ◌≡◌}
-use Rattle.std.specs.Prelude.{None, replicate}
+use Rattle.urb_group.proofs.Common.{Err, None, Ok, OpensFrom, ap, length, replicate, rules, subst}
+use Rattle.urb_group.proofs.Common.{sym, ◌∙◌, ◌≡◌}
 use Rattle.urb_group.proofs.stops.AskedStores.{written-back}
 use Rattle.urb_group.proofs.calls.ArmedStores.{opened-tied}
 use Rattle.urb_stable.specs.Images.{image_of}
-use Rattle.urb_group.specs.StoreOpenings.{OpensFrom}
 use Rattle.urb_group.proofs.cluster.Cluster.open_stores.Goals as goal
 
 pub invariant_of-result : goal.invariant_of-result

@@ -1,11 +1,8 @@
-use Rattle.std.proofs.Common.{ap, arith, length, rules, subst, sym, ◌∙◌, ◌≡◌}
-use Rattle.std.specs.List.{All}
-use Rattle.urb_names.specs.LabelsAndContents.{Limits}
+use Rattle.urb_group.proofs.Common.{All, AllHold, Continues, GroupView, IsKnown, IsSound, Limits}
+use Rattle.urb_group.proofs.Common.{OpensStores, RestLeaves, StopLeaves, ap, arith, length, rules}
+use Rattle.urb_group.proofs.Common.{stores_in, subst, sym, ◌∙◌, ◌≡◌}
 use Rattle.urb_group.proofs.stops.SecuredOpenings.{secured-known}
 use Rattle.urb_group.proofs.stops.StoredWorlds.{as-itself}
-use Rattle.urb_group.specs.StoreOpenings.{Continues, OpensStores, stores_in}
-use Rattle.urb_group.specs.GroupViews.{GroupView, IsSound}
-use Rattle.urb_group.specs.StoreContents.{AllHold, IsKnown, RestLeaves, StopLeaves}
 use Rattle.urb_group.proofs.cluster.Cluster.reopen.Goals as goal
 
 pub returns-clause-opened : goal.returns-clause-opened

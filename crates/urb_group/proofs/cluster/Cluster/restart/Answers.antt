@@ -1,7 +1,6 @@
-use Rattle.std.proofs.Common.{arith, rules, None, Some, ◌∙◌}
+use Rattle.urb_group.proofs.Common.{IsUnfallen, None, Some, arith, rules, ◌∙◌}
 use Rattle.urb_group.proofs.calls.StoreCallEffects.{fallen-bounds, read-restarts, read-tied}
 use Rattle.urb_group.proofs.calls.StoreCallEffects.{unfallen-restarts}
-use Rattle.urb_group.specs.internal.CallReplies.{IsUnfallen}
 use Rattle.urb_group.proofs.cluster.Cluster.restart.Goals as goal
 
 pub returns-in-Some : goal.returns-in-Some

@@ -1,7 +1,6 @@
-use Rattle.std.proofs.Common.{arith, rules, Some, sym, ◌∙◌}
+use Rattle.urb_group.proofs.Common.{IsUnstored, Some, arith, rules, sym, ◌∙◌}
 use Rattle.urb_group.proofs.calls.StoreCallEffects.{held-bounds, held-self, kept-stores, kept-tied}
 use Rattle.urb_group.proofs.calls.StoreCallEffects.{unstored-stores}
-use Rattle.urb_group.specs.internal.CallReplies.{IsUnstored}
 use Rattle.urb_group.proofs.cluster.Cluster.store.Goals as goal
 
 pub returns-in-Some : goal.returns-in-Some

@@ -1,5 +1,4 @@
-use Rattle.std.proofs.Common.{refl, rules}
-use Rattle.urb_world.specs.Step.{Commit}
+use Rattle.urb_group.proofs.Common.{Commit, refl, rules}
 use Rattle.urb_group.proofs.moves.GroupMoves.{commit-moved}
 use Rattle.urb_group.proofs.shown.NodeMoves.{nowhere}
 use Rattle.urb_group.proofs.group.Group.commit.Goals as goal

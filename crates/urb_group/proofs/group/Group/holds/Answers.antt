@@ -1,8 +1,4 @@
-use Rattle.std.proofs.Common.{◌∙◌}
-use Rattle.urb_names.specs.Nodes.{is_node}
-use Rattle.urb_names.specs.Pairs.{message_of}
-use Rattle.urb_stable.specs.Records.{pend}
-use Rattle.urb_world.specs.World.{stored}
+use Rattle.urb_group.proofs.Common.{is_node, message_of, pend, stored, ◌∙◌}
 use Rattle.urb_group.proofs.shown.NodeAnswers.{answers_some}
 use Rattle.urb_group.proofs.group.Group.holds.Goals as goal
 

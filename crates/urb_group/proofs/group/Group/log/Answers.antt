@@ -1,5 +1,4 @@
-use Rattle.std.proofs.Common.{Some, ap, arith}
-use Rattle.urb_stable.specs.DeliveredLogs.{log}
+use Rattle.urb_group.proofs.Common.{Some, ap, arith, log}
 use Rattle.urb_group.proofs.shown.NodeAnswers.{answered, unanswered}
 use Rattle.urb_group.proofs.group.Group.log.Goals as goal
 

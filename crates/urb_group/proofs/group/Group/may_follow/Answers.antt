@@ -1,8 +1,7 @@
-use Rattle.std.proofs.Common.{sym, take, ◌∙◌}
+use Rattle.urb_group.proofs.Common.{stored, sym, take, ◌∙◌}
 use Rattle.urb_group.proofs.tails.FollowedRecords.{follows-all, follows-first, follows-is}
 use Rattle.urb_group.proofs.tails.FollowedRecords.{follows-next, follows-not, follows-nowhere}
 use Rattle.urb_group.proofs.tails.FollowedRecords.{is-nowhere, is-there, joined}
-use Rattle.urb_world.specs.World.{stored}
 use Rattle.urb_group.proofs.group.Group.may_follow.Goals as goal
 
 pub returns-in_default : goal.returns-in_default

@@ -1,6 +1,5 @@
+use Rattle.urb_group.proofs.Common.{Shows, World, stored}
 use Rattle.urb_group.proofs.tails.FollowedRecords.{FollowsFrom}
-use Rattle.urb_group.specs.GroupViews.{Shows}
-use Rattle.urb_world.specs.World.{World, stored}
 use Rattle.urb_group.proofs.group.Group.may_follow.Given as goal
 
 -- all records so far may join

@@ -1,6 +1,4 @@
-use Rattle.std.proofs.Common.{arith, option_map}
-use Rattle.urb_names.specs.Pairs.{message_of}
-use Rattle.urb_stable.specs.Records.{pend}
+use Rattle.urb_group.proofs.Common.{arith, message_of, option_map, pend}
 use Rattle.urb_group.proofs.shown.NodeAnswers.{answered, unanswered}
 use Rattle.urb_group.proofs.group.Group.message.Goals as goal
 

@@ -1,7 +1,5 @@
-use Rattle.std.proofs.Common.{add-one, arith, rules, ◌+◌, ◌≡◌, ◌≤◌}
-use Rattle.urb_names.specs.declared.limits.TheConstants.{MAX_NODES}
+use Rattle.urb_group.proofs.Common.{MAX_NODES, add-one, arith, new_memory, rules, ◌+◌, ◌≡◌, ◌≤◌}
 use Rattle.urb_stable.proofs.FirstMisfits.{node-is}
-use Rattle.urb_node.specs.NodeMemories.{new_memory}
 use Rattle.urb_group.proofs.moves.NewPlaces.{first-group, first-shows, next-places, some_from}
 use Rattle.urb_group.proofs.group.Group.new.Goals as goal
 

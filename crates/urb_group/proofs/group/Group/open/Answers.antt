@@ -1,17 +1,11 @@
-use Rattle.std.proofs.Common.{List, None, Some, [], add-one, arith, length, map, refl, rules, subst}
-use Rattle.std.proofs.Common.{suc, sym, ℕ, ◌+◌, ◌++◌, ◌∙◌, ◌∷◌, ◌≡◌, ◌≤◌}
-use Rattle.std.proofs.lemmas.List.{length-map}
-use Rattle.std.specs.List.{All}
-use Rattle.urb_names.specs.declared.limits.TheConstants.{MAX_NODES}
-use Rattle.urb_node.specs.Part.{opened_node}
-use Rattle.urb_node.specs.NodeMemories.{ShowsReady}
-use Rattle.urb_stable.specs.Entries.{IsEntry}
-use Rattle.urb_stable.specs.Fitting.{KeepsOwn, first_misfit}
+use Rattle.urb_group.proofs.Common.{All, AreImages, IsEntry, KeepsOwn, List, MAX_NODES, None}
+use Rattle.urb_group.proofs.Common.{ShowsReady, Some, [], add-one, arith, first_misfit, length}
+use Rattle.urb_group.proofs.Common.{length-map, map, opened_node, refl, rules, subst, suc, sym, ℕ}
+use Rattle.urb_group.proofs.Common.{◌++◌, ◌+◌, ◌∙◌, ◌∷◌, ◌≡◌, ◌≤◌}
 use Rattle.urb_stable.specs.Images.{image_of}
 use Rattle.urb_group.proofs.moves.NewPlaces.{some_from, value_from}
 use Rattle.urb_group.proofs.moves.OpenedPlaces.{HasOpened, all-group, all-opens, more-opened}
 use Rattle.urb_group.proofs.moves.OpenedPlaces.{next-counted, next-keeps, none-opened}
-use Rattle.urb_world.specs.World.{AreImages}
 use Rattle.urb_group.proofs.group.Group.open.Goals as goal
 
 none_left : {X : Type 0} (xs : List X) (n : ℕ) → n ≡ length xs → n ≡ 0 → xs ≡ []

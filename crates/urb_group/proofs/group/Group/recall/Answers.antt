@@ -1,13 +1,6 @@
-use Rattle.std.proofs.Common.{[], refl, ◌∙◌}
-use Rattle.std.proofs.lemmas.List.{length-map}
-use Rattle.urb_group.specs.PlaceViews.{view_at}
-use Rattle.urb_world.specs.Step.{Run, run}
-use Rattle.urb_world.specs.World.{World}
-use Rattle.urb_world.proofs.safety.AcceptedSubmits.{accepted-stored}
+use Rattle.urb_group.proofs.Common.{Run, World, [], accepted-stored, kept-agree, length-map}
+use Rattle.urb_group.proofs.Common.{one_message, refl, run, safe, survives, view_at, ◌∙◌}
 use Rattle.urb_group.proofs.shown.AgreeingWorlds.{sound-kept}
-use Rattle.urb_world.proofs.safety.RunsOfKeptWorlds.{kept-agree}
-use Rattle.urb_world.proofs.safety.SafeWorlds.{one_message, safe}
-use Rattle.urb_world.proofs.stops.StoppedWorlds.{survives}
 use Rattle.urb_group.proofs.group.Group.recall.Goals as goal
 
 nothing_ran : (w : World) → Run w [] [] w

@@ -1,6 +1,4 @@
-use Rattle.std.proofs.Common.{◌∙◌}
-use Rattle.std.proofs.lemmas.List.{length-map}
-use Rattle.urb_group.specs.PlaceViews.{view_at}
+use Rattle.urb_group.proofs.Common.{length-map, view_at, ◌∙◌}
 use Rattle.urb_group.proofs.shown.AgreeingDeliveries.{deliveries-agree}
 use Rattle.urb_group.proofs.group.Group.recall_deliveries.Goals as goal
 

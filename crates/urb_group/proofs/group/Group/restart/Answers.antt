@@ -1,6 +1,4 @@
-use Rattle.std.proofs.Common.{rules}
-use Rattle.urb_group.specs.internal.PlaceCalls.{RestartsAt}
-use Rattle.urb_world.specs.Step.{Restart}
+use Rattle.urb_group.proofs.Common.{Restart, RestartsAt, rules}
 use Rattle.urb_group.proofs.moves.GroupMoves.{restart-moved}
 use Rattle.urb_group.proofs.shown.NodeMoves.{nowhere}
 use Rattle.urb_group.proofs.group.Group.restart.Goals as goal

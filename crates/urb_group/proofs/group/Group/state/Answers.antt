@@ -1,5 +1,4 @@
-use Rattle.std.proofs.Common.{Some, ap, arith, ◌∙◌}
-use Rattle.urb_group.specs.ReportedStates.{state_of}
+use Rattle.urb_group.proofs.Common.{Some, ap, arith, state_of, ◌∙◌}
 use Rattle.urb_group.proofs.shown.NodeAnswers.{answered, unanswered}
 use Rattle.urb_group.proofs.group.Group.state.Goals as goal
 

@@ -1,5 +1,4 @@
-use Rattle.std.proofs.Common.{rules}
-use Rattle.urb_world.specs.Step.{Submit}
+use Rattle.urb_group.proofs.Common.{Submit, rules}
 use Rattle.urb_group.proofs.moves.GroupMoves.{submit-moved}
 use Rattle.urb_group.proofs.moves.PlaceMoves.{content}
 use Rattle.urb_group.proofs.shown.NodeMoves.{nowhere}

@@ -1,5 +1,4 @@
-use Rattle.std.proofs.Common.{rules}
-use Rattle.urb_world.specs.Step.{Tick}
+use Rattle.urb_group.proofs.Common.{Tick, rules}
 use Rattle.urb_group.proofs.moves.GroupMoves.{tick-moved}
 use Rattle.urb_group.proofs.shown.NodeMoves.{nowhere}
 use Rattle.urb_group.proofs.group.Group.tick.Goals as goal

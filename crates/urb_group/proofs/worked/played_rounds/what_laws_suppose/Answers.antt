@@ -1,8 +1,7 @@
 -- The premises are true of small worlds and lists.
-use Rattle.std.proofs.Common.{refl}
+use Rattle.urb_group.proofs.Common.{is_node, refl}
 use Rattle.urb_world.proofs.rounds.BusyRounds.{round-busy}
 use Rattle.urb_world.proofs.rounds.JudgedRounds.{judged-among}
-use Rattle.urb_names.specs.Nodes.{is_node}
 use Rattle.urb_group.proofs.worked.played_rounds.what_laws_suppose.Goals as goal
 
 pub returns-clause-seven_play_a_round : goal.returns-clause-seven_play_a_round

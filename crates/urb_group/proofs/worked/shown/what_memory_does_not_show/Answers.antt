@@ -1,7 +1,5 @@
 -- Memory that lies in one thing doesn't show the node.
-use Rattle.std.proofs.Common.{refl}
-use Rattle.std.proofs.lemmas.Bool.{false≢true}
-use Rattle.urb_names.specs.Names.{name}
+use Rattle.urb_group.proofs.Common.{false≢true, name, refl}
 use Rattle.urb_world.specs.internal.Examples.{filled}
 use Rattle.urb_world.specs.internal.Scripts.{message}
 use Rattle.urb_group.proofs.worked.shown.what_memory_does_not_show.Goals as goal

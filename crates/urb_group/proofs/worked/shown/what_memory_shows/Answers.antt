@@ -1,10 +1,6 @@
 -- What shows a node, and what shows a new world.
-use Rattle.std.proofs.Common.{Bool, [], false, refl, suc, true, zero, ◌&&◌, ◌||◌, ◌≡◌, ℕ}
-use Rattle.urb_node.specs.NodeViews.{ShowsNode, no_view}
-use Rattle.urb_node.specs.Part.{opened_node}
-use Rattle.urb_names.specs.LabelsAndContents.{Limits}
-use Rattle.urb_stable.specs.Fitting.{KeepsOwn}
-use Rattle.urb_group.specs.GroupViews.{view_of}
+use Rattle.urb_group.proofs.Common.{Bool, KeepsOwn, Limits, ShowsNode, [], false, no_view}
+use Rattle.urb_group.proofs.Common.{opened_node, refl, suc, true, view_of, zero, ℕ, ◌&&◌, ◌||◌, ◌≡◌}
 use Rattle.urb_world.specs.internal.Examples.{limits, seen_node, seen_view}
 use Rattle.urb_group.proofs.worked.shown.what_memory_shows.Goals as goal
 

@@ -1,7 +1,6 @@
-use Rattle.std.proofs.Common.{List, Some, [], inr, ◌∷◌, ◌≡◌, refl, ⊎_elim}
-use Rattle.std.proofs.lemmas.Bool.{false≢true, true≢false}
-use Rattle.urb_stable.specs.Entries.{Entry}
-use Rattle.urb_stable.specs.MemoryStores.{after_failure, empty_memory}
+use Rattle.urb_group.proofs.Common.{Entry, List, Some, [], after_failure, empty_memory, false≢true}
+use Rattle.urb_group.proofs.Common.{inr, refl, ⊎_elim, ◌∷◌, ◌≡◌}
+use Rattle.std.proofs.lemmas.Bool.{true≢false}
 use Rattle.urb_world.specs.internal.Examples.{pending}
 use Rattle.urb_group.proofs.worked.stores.stores.Goals as goal
 

@@ -1,10 +1,6 @@
-use Rattle.std.proofs.Common.{[], ap, subst, ◌∙◌, ℕ}
-use Rattle.urb_names.specs.Pairs.{next_number, own}
+use Rattle.urb_node.proofs.Common.{Down, Fallen, ShowsDown, TellsNext, [], ap, memory_of}
+use Rattle.urb_node.proofs.Common.{next_number, own, subst, ℕ, ◌∙◌}
 use Rattle.urb_node.proofs.QueryAnswers.{next_says}
-use Rattle.urb_node.specs.CallEffects.{TellsNext}
-use Rattle.urb_node.specs.LayerFields.{memory_of}
-use Rattle.urb_node.specs.NodeMemories.{Fallen, ShowsDown}
-use Rattle.urb_node.specs.Part.{Down}
 use Rattle.urb_node.proofs.down.Down.client_next.Goals as goal
 
 pub returns-clause-stored : goal.returns-clause-stored

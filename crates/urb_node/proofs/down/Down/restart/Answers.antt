@@ -1,6 +1,4 @@
-use Rattle.std.proofs.Common.{◌∙◌, ap, subst}
-use Rattle.urb_node.specs.CallEffects.{Restarts}
-use Rattle.urb_node.specs.NodeMemories.{Fallen, Memory}
+use Rattle.urb_node.proofs.Common.{Fallen, Memory, Restarts, ap, subst, ◌∙◌}
 use Rattle.urb_node.proofs.down.Down.restart.Goals as goal
 
 pub returns : goal.returns

@@ -1,11 +1,6 @@
-use Rattle.std.proofs.Common.{◌≡◌, ◌≤◌, Ok, Err, sym, subst, ◌∙◌}
-use Rattle.urb_node.specs.LayerFields.{memory_of}
-use Rattle.urb_node.specs.CallEffects.{AnswersFrom, AnswersOfStored, LeadsTo}
-use Rattle.urb_node.specs.RecordAdmission.{MayArrive}
-use Rattle.urb_node.specs.internal.Outcomes.{arrive_outcome}
-use Rattle.urb_node.specs.Part.{Node}
-use Rattle.urb_node.specs.Steps.{arrives}
-use Rattle.urb_node.specs.NodeMemories.{Memory, ShowsReady}
+use Rattle.urb_node.proofs.Common.{AnswersFrom, AnswersOfStored, Err, LeadsTo, MayArrive, Memory}
+use Rattle.urb_node.proofs.Common.{Node, Ok, ShowsReady, arrive_outcome, arrives, memory_of, subst}
+use Rattle.urb_node.proofs.Common.{sym, ◌∙◌, ◌≡◌, ◌≤◌}
 use Rattle.urb_node.proofs.OutcomeResults.{found-leads, refusal-leads}
 use Rattle.urb_node.proofs.ArrivalOutcomes.{arrive-says}
 use Rattle.urb_node.proofs.SentPackets.{answers-of_stored, arrived-from}

@@ -1,10 +1,6 @@
-use Rattle.std.proofs.Common.{ap, subst, ◌∙◌, ℕ}
-use Rattle.urb_names.specs.Pairs.{next_number, own}
+use Rattle.urb_node.proofs.Common.{Memory, Ready, ShowsReady, TellsNext, ap, memory_of, next_number}
+use Rattle.urb_node.proofs.Common.{own, subst, ℕ, ◌∙◌}
 use Rattle.urb_node.proofs.QueryAnswers.{next_says}
-use Rattle.urb_node.specs.CallEffects.{TellsNext}
-use Rattle.urb_node.specs.LayerFields.{memory_of}
-use Rattle.urb_node.specs.NodeMemories.{Memory, ShowsReady}
-use Rattle.urb_node.specs.Part.{Ready}
 use Rattle.urb_node.proofs.ready.Ready.client_next.Goals as goal
 
 pub returns-clause-stored : goal.returns-clause-stored

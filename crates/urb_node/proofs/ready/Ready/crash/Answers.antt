@@ -1,7 +1,4 @@
-use Rattle.std.proofs.Common.{subst, sym}
-use Rattle.urb_node.specs.LayerFields.{memory_of}
-use Rattle.urb_node.specs.CallEffects.{Crashes}
-use Rattle.urb_node.specs.NodeMemories.{Fallen, Memory, ShowsReady}
+use Rattle.urb_node.proofs.Common.{Crashes, Fallen, Memory, ShowsReady, memory_of, subst, sym}
 use Rattle.urb_node.proofs.NodeFailures.{crashes-ready}
 use Rattle.urb_node.proofs.ready.Ready.crash.Goals as goal
 

@@ -1,11 +1,5 @@
-use Rattle.std.proofs.Common.{◌≤◌, Ok, Err, sym, subst, arith}
-use Rattle.urb_names.specs.LabelsAndContents.{Content}
-use Rattle.urb_node.specs.LayerFields.{memory_of}
-use Rattle.urb_node.specs.CallEffects.{LeadsTo}
-use Rattle.urb_node.specs.internal.Outcomes.{submit_outcome}
-use Rattle.urb_node.specs.Part.{Node}
-use Rattle.urb_node.specs.Steps.{submits}
-use Rattle.urb_node.specs.NodeMemories.{Memory, ShowsReady}
+use Rattle.urb_node.proofs.Common.{Content, Err, LeadsTo, Memory, Node, Ok, ShowsReady, arith}
+use Rattle.urb_node.proofs.Common.{memory_of, submit_outcome, submits, subst, sym, ◌≤◌}
 use Rattle.urb_node.proofs.OutcomeResults.{found-leads, refusal-leads}
 use Rattle.urb_node.proofs.SubmitOutcomes.{submit-says}
 use Rattle.urb_node.proofs.ready.Ready.submit.Goals as goal

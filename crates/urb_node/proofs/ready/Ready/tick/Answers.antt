@@ -1,10 +1,5 @@
-use Rattle.std.proofs.Common.{subst}
-use Rattle.std.specs.Prelude.{IfOk}
-use Rattle.urb_names.specs.CarriedPackets.{AreFrom}
-use Rattle.urb_node.specs.LayerFields.{memory_of}
-use Rattle.urb_node.specs.CallEffects.{AreOfStored, Ticks}
-use Rattle.urb_node.specs.Part.{Ready}
-use Rattle.urb_node.specs.NodeMemories.{Memory, ShowsReady}
+use Rattle.urb_node.proofs.Common.{AreFrom, AreOfStored, IfOk, Memory, Ready, ShowsReady, Ticks}
+use Rattle.urb_node.proofs.Common.{memory_of, subst}
 use Rattle.urb_node.proofs.OutcomeResults.{resend-kept, tick-leads, tick_keeps}
 use Rattle.urb_node.proofs.SentPackets.{tick-from, tick-of_stored}
 use Rattle.urb_node.proofs.ready.Ready.tick.Goals as goal

@@ -1,8 +1,4 @@
-use Rattle.std.proofs.Common.{Ok, refl, subst}
-use Rattle.urb_node.specs.LayerFields.{memory_of}
-use Rattle.urb_node.specs.CallEffects.{Confirms}
-use Rattle.urb_node.specs.Part.{Ready}
-use Rattle.urb_node.specs.NodeMemories.{Holding}
+use Rattle.urb_node.proofs.Common.{Confirms, Holding, Ok, Ready, memory_of, refl, subst}
 use Rattle.urb_node.proofs.ReceiptResults.{confirm-leads}
 use Rattle.urb_node.proofs.SentPackets.{of-stored, stored-from}
 use Rattle.urb_node.proofs.HoldableDrafts.{one_more_fits}

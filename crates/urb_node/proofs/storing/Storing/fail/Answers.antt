@@ -1,7 +1,4 @@
-use Rattle.std.proofs.Common.{subst, sym}
-use Rattle.urb_node.specs.LayerFields.{memory_of}
-use Rattle.urb_node.specs.CallEffects.{Fails}
-use Rattle.urb_node.specs.NodeMemories.{Fallen, Holding}
+use Rattle.urb_node.proofs.Common.{Fails, Fallen, Holding, memory_of, subst, sym}
 use Rattle.urb_node.proofs.NodeFailures.{doubtful-next}
 use Rattle.urb_node.proofs.JoinedLayers.{falls}
 use Rattle.urb_node.proofs.storing.Storing.fail.Goals as goal

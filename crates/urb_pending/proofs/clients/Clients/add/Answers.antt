@@ -1,6 +1,5 @@
-use Rattle.std.proofs.Common.{arith, sym, ap, ◌∙◌, ◌<◌, length, ◌++◌, ◌∷◌, []}
-use Rattle.urb_pending.specs.internal.ClientRows.{Row}
-use Rattle.urb_pending.specs.internal.ClientIndex.{has_room, numbers_in}
+use Rattle.urb_pending.proofs.Common.{Row, [], ap, arith, has_room, length, numbers_in, sym, ◌++◌}
+use Rattle.urb_pending.proofs.Common.{◌<◌, ◌∙◌, ◌∷◌}
 use Rattle.urb_pending.proofs.ClientRowPlaces.{order_changed, place_in, row_changed}
 use Rattle.urb_pending.proofs.ClientRowChanges.{given_pushed, roomy_row, row_read, row_within}
 use Rattle.urb_pending.proofs.clients.Clients.add.Goals as goal

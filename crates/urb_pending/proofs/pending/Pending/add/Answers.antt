@@ -1,9 +1,7 @@
-use Rattle.std.proofs.Common.{rules, ap, ◌∙◌, ◌≡◌, ◌==◌, refl}
-use Rattle.std.proofs.lemmas.Bool.{false≢true}
-use Rattle.urb_names.specs.LabelsAndContents.{Label}
-use Rattle.urb_names.specs.RisingLists.{placed}
-use Rattle.urb_window.specs.Entries.{entry_lt}
-use Rattle.urb_pending.proofs.PreservedFields.{IsGiven, kept_with, placed_pair, roomier, roomier_same}
+use Rattle.urb_pending.proofs.Common.{Label, ap, entry_lt, false≢true, placed, refl, rules, ◌==◌}
+use Rattle.urb_pending.proofs.Common.{◌∙◌, ◌≡◌}
+use Rattle.urb_pending.proofs.PreservedFields.{IsGiven, kept_with, placed_pair, roomier}
+use Rattle.urb_pending.proofs.PreservedFields.{roomier_same}
 use Rattle.urb_pending.proofs.PairSearches.{value_is}
 use Rattle.urb_pending.proofs.pending.Pending.add.Goals as goal
 

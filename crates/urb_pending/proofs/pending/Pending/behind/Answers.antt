@@ -1,5 +1,4 @@
-use Rattle.std.proofs.Common.{◌∙◌}
-use Rattle.urb_names.specs.Names.{name_lt}
+use Rattle.urb_pending.proofs.Common.{name_lt, ◌∙◌}
 use Rattle.urb_pending.proofs.PairSearches.{front_name}
 use Rattle.urb_pending.proofs.NextNames.{all_behind_none, first_passing}
 use Rattle.urb_pending.proofs.pending.Pending.behind.Goals as goal

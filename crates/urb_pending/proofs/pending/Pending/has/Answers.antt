@@ -1,5 +1,4 @@
-use Rattle.std.proofs.Common.{◌∙◌, ◌≡◌, None, Some}
-use Rattle.urb_names.specs.Names.{same_message}
+use Rattle.urb_pending.proofs.Common.{None, Some, same_message, ◌∙◌, ◌≡◌}
 use Rattle.urb_pending.proofs.PairSearches.{found_is, told_same}
 use Rattle.urb_pending.proofs.pending.Pending.has.Goals as goal
 

@@ -1,5 +1,4 @@
-use Rattle.std.proofs.Common.{◌≡◌, ◌++◌, ◌*◌, drop}
-use Rattle.urb_script.specs.internal.HexDigits.{bytes_of}
+use Rattle.urb_script.proofs.Common.{bytes_of, drop, ◌*◌, ◌++◌, ◌≡◌}
 use Rattle.urb_script.proofs.hex.HexBytes.decode.Given as goal
 
 -- what is read so far, and what is left

@@ -1,11 +1,5 @@
-use Rattle.std.proofs.Common.{◌≡◌, ◌++◌, true, drop, map}
-use Rattle.std.specs.List.{flat_map}
-use Rattle.urb_names.specs.Nodes.{is_node}
-use Rattle.urb_names.specs.Pairs.{message_of}
-use Rattle.urb_stable.specs.Records.{pend}
-use Rattle.urb_group.specs.GroupViews.{Shows}
-use Rattle.urb_world.specs.World.{World, stored}
-use Rattle.urb_script.specs.Texts.{entry_text}
+use Rattle.urb_script.proofs.Common.{Shows, World, drop, entry_text, flat_map, is_node, map}
+use Rattle.urb_script.proofs.Common.{message_of, pend, stored, true, ◌++◌, ◌≡◌}
 use Rattle.urb_script.proofs.mem_cluster.MemCluster.push_entries.Given as goal
 
 -- what is written so far, and what is left

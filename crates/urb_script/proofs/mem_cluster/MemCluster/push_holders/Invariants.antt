@@ -1,12 +1,6 @@
-use Rattle.std.proofs.Common.{◌≡◌, ◌++◌, ◌∷◌, ◌-◌, ◌+◌}
-use Rattle.std.specs.List.{filter, flat_map}
-use Rattle.std.specs.Option.{is_some}
-use Rattle.std.specs.Fmt.{decimal}
-use Rattle.urb_names.specs.Nodes.{numbers_from}
-use Rattle.urb_names.specs.Pairs.{message_of}
-use Rattle.urb_stable.specs.Records.{pend}
-use Rattle.urb_group.specs.GroupViews.{Shows}
-use Rattle.urb_world.specs.World.{World, stored}
+use Rattle.urb_script.proofs.Common.{Shows, World, decimal, flat_map, is_some, message_of}
+use Rattle.urb_script.proofs.Common.{numbers_from, pend, stored, ◌++◌, ◌+◌, ◌-◌, ◌∷◌, ◌≡◌}
+use Rattle.std.specs.List.{filter}
 use Rattle.urb_script.specs.Steps.{holders}
 use Rattle.urb_script.proofs.mem_cluster.MemCluster.push_holders.Given as goal
 

@@ -1,11 +1,8 @@
-use Rattle.std.proofs.Common.{ap}
+use Rattle.urb_show.proofs.Common.{Arrive, HouseView, ap, reply_to}
 use Rattle.urb_names.specs.PacketGrammar.{packet_of}
-use Rattle.urb_world.specs.Step.{Arrive}
 use Rattle.urb_show.proofs.GroupLists.{house_after, takes_follow}
 use Rattle.urb_show.proofs.PastEvents.{has_past_after, told_after}
 use Rattle.urb_show.proofs.ToldReplies.{recorded, takes_step}
-use Rattle.urb_show.specs.Houses.{HouseView}
-use Rattle.urb_show.specs.Pasts.{reply_to}
 use Rattle.urb_show.proofs.house.House.arrive.Goals as goal
 
 pub invariant_of-self : goal.invariant_of-self

@@ -1,10 +1,7 @@
-use Rattle.std.proofs.Common.{ap}
-use Rattle.urb_world.specs.Step.{Commit}
-use Rattle.urb_show.proofs.GroupLists.{house_after, commits_follow}
+use Rattle.urb_show.proofs.Common.{Commit, HouseView, Stored, ap}
+use Rattle.urb_show.proofs.GroupLists.{commits_follow, house_after}
 use Rattle.urb_show.proofs.PastEvents.{has_past_after, told_after}
-use Rattle.urb_show.proofs.ToldReplies.{recorded, commits_step}
-use Rattle.urb_show.specs.Houses.{HouseView}
-use Rattle.urb_node.specs.Replies.{Stored}
+use Rattle.urb_show.proofs.ToldReplies.{commits_step, recorded}
 use Rattle.urb_show.proofs.house.House.commit.Goals as goal
 
 pub invariant_of-self : goal.invariant_of-self

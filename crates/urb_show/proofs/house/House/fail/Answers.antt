@@ -1,10 +1,7 @@
-use Rattle.std.proofs.Common.{ap}
-use Rattle.urb_world.specs.Step.{Fail}
-use Rattle.urb_show.proofs.GroupLists.{house_after, goes_down_follow}
+use Rattle.urb_show.proofs.Common.{Fail, HouseView, WentDown, ap}
+use Rattle.urb_show.proofs.GroupLists.{goes_down_follow, house_after}
 use Rattle.urb_show.proofs.PastEvents.{has_past_after, told_after}
-use Rattle.urb_show.proofs.ToldReplies.{recorded, goes_down_step}
-use Rattle.urb_show.specs.Houses.{HouseView}
-use Rattle.urb_node.specs.Replies.{WentDown}
+use Rattle.urb_show.proofs.ToldReplies.{goes_down_step, recorded}
 use Rattle.urb_show.proofs.house.House.fail.Goals as goal
 
 pub invariant_of-self : goal.invariant_of-self

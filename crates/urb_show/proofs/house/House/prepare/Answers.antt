@@ -1,18 +1,11 @@
-use Rattle.std.proofs.Common.{List, [], ap, arith, length, slice_set, subst, sym, ℕ, ◌+◌, ◌++◌, ◌-◌}
-use Rattle.std.proofs.Common.{◌<◌, ◌∙◌, ◌∷◌, ◌≡◌}
-use Rattle.urb_world.specs.Step.{Event}
+use Rattle.urb_show.proofs.Common.{Addition, Agree, AreDeliveredBy, Event, HouseView, List, Lists}
+use Rattle.urb_show.proofs.Common.{MarkView, PublisherView, [], ap, arith, delivery_of, length}
+use Rattle.urb_show.proofs.Common.{length-map, list_at, lists_in, lists_of, slice_set, subst, sym}
+use Rattle.urb_show.proofs.Common.{ℕ, ◌++◌, ◌+◌, ◌-◌, ◌<◌, ◌∙◌, ◌∷◌, ◌≡◌}
 use Rattle.urb_show.proofs.AgreeingLists.{agree_begins}
 use Rattle.urb_show.proofs.DeliveredPlaces.{led_delivered}
-use Rattle.urb_show.specs.DeliveredLists.{AreDeliveredBy}
-use Rattle.urb_show.specs.internal.Marks.{MarkView}
 use Rattle.urb_show.proofs.GroupLists.{lists_agree}
 use Rattle.urb_show.proofs.PreparedEntries.{IsNext, is_next}
-use Rattle.urb_show.specs.Additions.{lists_of}
-use Rattle.urb_show.specs.internal.History.{PublisherView}
-use Rattle.urb_show.specs.Houses.{HouseView}
-use Rattle.urb_show.specs.Lists.{Agree, Lists, delivery_of, list_at, lists_in}
-use Rattle.std.proofs.lemmas.List.{length-map}
-use Rattle.urb_show.specs.declared.entry.Addition.{Addition}
 use Rattle.urb_show.proofs.house.House.prepare.Goals as goal
 
 pub add-requires-clause-agree : goal.add-requires-clause-agree

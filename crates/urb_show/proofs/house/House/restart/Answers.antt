@@ -1,10 +1,7 @@
-use Rattle.std.proofs.Common.{ap}
-use Rattle.urb_world.specs.Step.{Restart}
-use Rattle.urb_show.proofs.GroupLists.{house_after, comes_up_follow}
+use Rattle.urb_show.proofs.Common.{HouseView, Restart, Up, ap}
+use Rattle.urb_show.proofs.GroupLists.{comes_up_follow, house_after}
 use Rattle.urb_show.proofs.PastEvents.{has_past_after, told_after}
-use Rattle.urb_show.proofs.ToldReplies.{recorded, comes_up_step}
-use Rattle.urb_show.specs.Houses.{HouseView}
-use Rattle.urb_node.specs.Replies.{Up}
+use Rattle.urb_show.proofs.ToldReplies.{comes_up_step, recorded}
 use Rattle.urb_show.proofs.house.House.restart.Goals as goal
 
 pub invariant_of-self : goal.invariant_of-self

@@ -1,6 +1,4 @@
-use Rattle.std.proofs.Common.{length, ◌-◌, ◌≡◌, ◌≤◌}
-use Rattle.urb_show.specs.Houses.{Grew}
-use Rattle.urb_show.specs.Lists.{list_at, lists_in}
+use Rattle.urb_show.proofs.Common.{Grew, length, list_at, lists_in, ◌-◌, ◌≡◌, ◌≤◌}
 use Rattle.urb_show.proofs.house.House.settle.Given as goal
 
 abbrev pub invariant-loop-node : goal.invariant-loop-node

@@ -1,10 +1,7 @@
-use Rattle.std.proofs.Common.{ap}
-use Rattle.urb_world.specs.Step.{Submit}
+use Rattle.urb_show.proofs.Common.{HouseView, Submit, ap, reply_to}
 use Rattle.urb_show.proofs.GroupLists.{house_after, takes_follow}
 use Rattle.urb_show.proofs.PastEvents.{has_past_after, told_after}
 use Rattle.urb_show.proofs.ToldReplies.{recorded, takes_step}
-use Rattle.urb_show.specs.Houses.{HouseView}
-use Rattle.urb_show.specs.Pasts.{reply_to}
 use Rattle.urb_show.proofs.house.House.submit.Goals as goal
 
 pub invariant_of-self : goal.invariant_of-self

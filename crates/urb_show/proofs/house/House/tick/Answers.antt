@@ -1,10 +1,7 @@
-use Rattle.std.proofs.Common.{ap}
-use Rattle.urb_world.specs.Step.{Tick}
+use Rattle.urb_show.proofs.Common.{HouseView, Sent, Tick, ap}
 use Rattle.urb_show.proofs.GroupLists.{house_after, ticks_follow}
 use Rattle.urb_show.proofs.PastEvents.{has_past_after, told_after}
 use Rattle.urb_show.proofs.ToldReplies.{recorded, ticks_step}
-use Rattle.urb_show.specs.Houses.{HouseView}
-use Rattle.urb_node.specs.Replies.{Sent}
 use Rattle.urb_show.proofs.house.House.tick.Goals as goal
 
 pub invariant_of-self : goal.invariant_of-self

@@ -1,13 +1,11 @@
-use Rattle.std.proofs.Common.{[], ap, refl, subst, ◌≡◌, ◌∙◌}
-use Rattle.urb_group.specs.GroupViews.{IsSound}
+use Rattle.urb_show.proofs.Common.{Agree, IsSound, PublisherView, [], ap, lists_in, refl, subst}
+use Rattle.urb_show.proofs.Common.{◌∙◌, ◌≡◌}
 use Rattle.urb_show.proofs.DeliveredPlaces.{opened_delivered}
 use Rattle.urb_show.proofs.GroupLists.{lists_agree}
 use Rattle.urb_show.proofs.PastEvents.{has_no_past}
 use Rattle.urb_show.proofs.PastPrefixes.{prefix_none}
 use Rattle.urb_show.proofs.PreparedEntries.{opened_house_is}
-use Rattle.urb_show.specs.internal.History.{PublisherView}
 use Rattle.urb_show.specs.Houses.{OpenedView}
-use Rattle.urb_show.specs.Lists.{Agree, lists_in}
 use Rattle.urb_show.proofs.opened_group.Opened.parts_in.Goals as goal
 
 pub new-requires-clause-agree : goal.new-requires-clause-agree

@@ -1,12 +1,7 @@
-use Rattle.std.proofs.Common.{List, [], ap, subst, sym, ◌++◌, ◌∙◌, ◌∷◌, ◌≡◌}
+use Rattle.urb_show.proofs.Common.{Addition, Agree, AreDeliveredBy, AreTimely, List, NameView}
+use Rattle.urb_show.proofs.Common.{PublisherView, [], ap, lists_of, subst, sym, ◌++◌, ◌∙◌, ◌∷◌, ◌≡◌}
 use Rattle.urb_show.proofs.Prefixes.{prefix_equal}
 use Rattle.urb_show.proofs.TimelyAdditions.{timely_more}
-use Rattle.urb_show.specs.Additions.{lists_of}
-use Rattle.urb_show.specs.DeliveredLists.{AreDeliveredBy}
-use Rattle.urb_show.specs.Lists.{Agree}
-use Rattle.urb_show.specs.declared.entry.Addition.{Addition}
-use Rattle.urb_show.specs.internal.History.{PublisherView}
-use Rattle.urb_show.specs.internal.PublishingRule.{AreTimely, NameView}
 use Rattle.urb_show.proofs.publisher.Publisher.add.Goals as goal
 
 pub invariant_of-self-2 : goal.invariant_of-self-2

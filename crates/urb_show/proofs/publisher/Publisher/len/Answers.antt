@@ -1,6 +1,4 @@
-use Rattle.std.proofs.Common.{subst}
-use mathlib.Core.List.{IsPrefix}
-use Rattle.urb_show.specs.internal.History.{PublisherView}
+use Rattle.urb_show.proofs.Common.{IsPrefix, PublisherView, subst}
 use Rattle.urb_show.proofs.PublishingSteps.{shown_begins}
 use Rattle.urb_show.proofs.publisher.Publisher.len.Goals as goal
 

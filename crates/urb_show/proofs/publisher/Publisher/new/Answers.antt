@@ -1,11 +1,8 @@
-use Rattle.std.proofs.Common.{List, [], ap, fold, subst, sym, ◌∙◌, ◌≡◌}
+use Rattle.urb_show.proofs.Common.{Addition, Agree, List, [], ap, applied_to, fold, issue_of}
+use Rattle.urb_show.proofs.Common.{lists_of, subst, sym, ◌∙◌, ◌≡◌}
 use Rattle.urb_show.proofs.Prefixes.{prefix_empty}
 use Rattle.urb_show.proofs.TimelyAdditions.{all_timely_none}
-use Rattle.urb_show.specs.Additions.{lists_of}
-use Rattle.urb_show.specs.Lists.{Agree}
-use Rattle.urb_show.specs.declared.entry.Addition.{Addition}
-use Rattle.urb_show.specs.internal.History.{issue_of}
-use Rattle.urb_show.specs.internal.Operations.{applied_to, state_of}
+use Rattle.urb_show.specs.internal.Operations.{state_of}
 use Rattle.urb_show.proofs.publisher.Publisher.new.Goals as goal
 
 pub invariant_of-result : goal.invariant_of-result

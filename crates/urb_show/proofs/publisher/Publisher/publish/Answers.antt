@@ -1,12 +1,7 @@
-use Rattle.std.proofs.Common.{◌≡◌, sym, ◌∙◌, ap, subst, List, Some, drop}
-use mathlib.Core.List.{IsPrefix}
-use Rattle.urb_show.specs.declared.entry.Addition.{Addition}
-use Rattle.urb_show.specs.Additions.{lists_of}
-use Rattle.urb_show.specs.internal.History.{PublisherView}
-use Rattle.urb_show.specs.Lists.{Agree}
-use Rattle.urb_show.specs.internal.PublishingRule.{AreTimely, NameView}
+use Rattle.urb_show.proofs.Common.{Addition, Agree, AreTimely, IsPrefix, List, NameView}
+use Rattle.urb_show.proofs.Common.{PublisherView, Some, ap, drop, lists_of, subst, sym, ◌∙◌, ◌≡◌}
 use Rattle.urb_show.proofs.Prefixes.{prefix_self}
-use Rattle.urb_show.proofs.PublishingSteps.{turns, now_published}
+use Rattle.urb_show.proofs.PublishingSteps.{now_published, turns}
 use Rattle.urb_show.proofs.publisher.Publisher.publish.Goals as goal
 
 pub publish_as-writer-requires : goal.publish_as-writer-requires

@@ -1,7 +1,4 @@
-use Rattle.std.proofs.Common.{List, ◌∙◌, ◌≡◌, subst, sym}
-use Rattle.urb_world.specs.Step.{Event}
-use Rattle.urb_show.specs.DeliveredLists.{AreDeliveredBy}
-use Rattle.urb_show.specs.Lists.{Lists}
+use Rattle.urb_show.proofs.Common.{AreDeliveredBy, Event, List, Lists, subst, sym, ◌∙◌, ◌≡◌}
 use Rattle.urb_show.proofs.read_position.ReadPosition.at.Goals as goal
 
 pub invariant_of-result : goal.invariant_of-result

@@ -1,10 +1,6 @@
-use Rattle.std.proofs.Common.{List, ◌≡◌, ◌∙◌, ap, ap₂, subst, sym, ◌-◌}
-use Rattle.urb_world.specs.Step.{Event}
-use Rattle.urb_show.specs.Additions.{lists_of}
-use Rattle.urb_show.specs.DeliveredLists.{AreDeliveredBy}
-use Rattle.urb_show.specs.Lists.{Lists, list_at}
-use Rattle.urb_show.specs.Pages.{IsPageOf}
-use Rattle.urb_show.specs.Readers.{Learns, ReaderView, Takes, ToldView}
+use Rattle.urb_show.proofs.Common.{AreDeliveredBy, Event, IsPageOf, Learns, List, Lists, ReaderView}
+use Rattle.urb_show.proofs.Common.{ToldView, ap, ap₂, list_at, lists_of, subst, sym, ◌-◌, ◌∙◌, ◌≡◌}
+use Rattle.urb_show.specs.Readers.{Takes}
 use Rattle.urb_show.proofs.ListBeginnings.{takes_through}
 use Rattle.urb_show.proofs.read_position.ReadPosition.read.Goals as goal
 

@@ -1,7 +1,6 @@
-use Rattle.std.proofs.Common.{ap, inl, inr, refl, ⊎_elim}
+use Rattle.urb_show.proofs.Common.{ap, inl, inr, lists_of, refl, ⊎_elim}
 use Rattle.urb_show.proofs.DeliveredPlaces.{delivered_later}
 use Rattle.urb_show.proofs.ListBeginnings.{begins_later}
-use Rattle.urb_show.specs.Additions.{lists_of}
 use Rattle.urb_show.proofs.reader.LogReader.learn.Goals as goal
 
 pub returns : goal.returns

@@ -1,9 +1,6 @@
-use Rattle.std.proofs.Common.{List, subst, sym, zero-le, length, ℕ, ap, ◌≤◌}
+use Rattle.urb_show.proofs.Common.{Addition, Agree, AreDeliveredBy, List, ap, length, lists_of}
+use Rattle.urb_show.proofs.Common.{subst, sym, zero-le, ℕ, ◌≤◌}
 use Rattle.urb_show.proofs.reader.LogReader.new.Goals as goal
-use Rattle.urb_show.specs.Additions.{lists_of}
-use Rattle.urb_show.specs.DeliveredLists.{AreDeliveredBy}
-use Rattle.urb_show.specs.Lists.{Agree}
-use Rattle.urb_show.specs.declared.entry.Addition.{Addition}
 
 pub invariant_of-result : goal.invariant_of-result
 invariant_of-result g c =

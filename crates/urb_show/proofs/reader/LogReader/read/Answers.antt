@@ -1,12 +1,6 @@
-use Rattle.std.proofs.Common.{rules, ◌≡◌, sym, ◌∙◌, ap, subst, le_refl, inr, List, ◌-◌, ℕ, arith}
-use mathlib.Core.List.{IsPrefix}
-use Rattle.urb_world.specs.Step.{Event}
-use Rattle.urb_show.specs.declared.entry.Addition.{Addition}
-use Rattle.urb_show.specs.Additions.{lists_of}
-use Rattle.urb_show.specs.internal.Marks.{MarkView}
-use Rattle.urb_show.specs.Lists.{Lists, list_at}
-use Rattle.urb_show.specs.Pages.{IsPageOf}
-use Rattle.urb_show.specs.internal.PublishingRule.{IsIssue, NameView}
+use Rattle.urb_show.proofs.Common.{Addition, Event, IsIssue, IsPageOf, IsPrefix, List, Lists}
+use Rattle.urb_show.proofs.Common.{MarkView, NameView, ap, arith, inr, le_refl, list_at, lists_of}
+use Rattle.urb_show.proofs.Common.{rules, subst, sym, ℕ, ◌-◌, ◌∙◌, ◌≡◌}
 use Rattle.urb_show.proofs.PublishingSteps.{rises}
 use Rattle.urb_show.proofs.TakenLists.{taken, taken_agree, taken_delivered}
 use Rattle.urb_show.proofs.reader.LogReader.read.Goals as goal

@@ -1,9 +1,7 @@
 -- Two pages of one entry each.
-use Rattle.std.proofs.Common.{Contains, List, [], ap, arith, refl, slice_index_or, subst, suc, sym}
-use Rattle.std.proofs.Common.{zero, ◌∙◌, ◌∷◌, ◌≡◌}
+use Rattle.urb_show.proofs.Common.{Contains, Label, List, [], ap, arith, refl, slice_index_or}
+use Rattle.urb_show.proofs.Common.{subst, suc, sym, told, zero, ◌∙◌, ◌∷◌, ◌≡◌}
 use Rattle.urb_show.specs.declared.entry.Entry.{Entry}
-use Rattle.urb_show.specs.internal.Examples.{told}
-use Rattle.urb_names.specs.LabelsAndContents.{Label}
 use Rattle.urb_show.proofs.worked.pages.pages_of_two_readers.Goals as goal
 
 -- one letter is not another

@@ -1,14 +1,8 @@
 -- What a new group tells of its node 1.
-use Rattle.std.proofs.Common.{List, None, Some, [], arith, length, refl, suc, zero, ℕ, ◌∷◌, ◌≡◌}
-use Rattle.urb_group.specs.GroupViews.{Shows, view_of}
-use Rattle.urb_world.specs.World.{World, started, stored}
-use Rattle.urb_world.specs.internal.Examples.{limits}
-use Rattle.urb_names.specs.Names.{name}
-use Rattle.urb_node.specs.NodeViews.{ShowsNode, no_view}
-use Rattle.urb_node.specs.Part.{opened_node}
+use Rattle.urb_show.proofs.Common.{List, None, Shows, ShowsNode, Some, World, [], arith, length}
+use Rattle.urb_show.proofs.Common.{limits, log, name, new_four, no_view, opened_node, refl}
+use Rattle.urb_show.proofs.Common.{shows_none, started, stored, suc, view_of, zero, ℕ, ◌∷◌, ◌≡◌}
 use Rattle.urb_show.specs.Statuses.{status_of}
-use Rattle.urb_show.specs.internal.ReaderExamples.{new_four, shows_none}
-use Rattle.urb_stable.specs.DeliveredLogs.{log}
 use Rattle.urb_stable.specs.Entries.{Entry}
 use Rattle.urb_show.proofs.worked.pages.statuses_of_four_nodes.Goals as goal
 

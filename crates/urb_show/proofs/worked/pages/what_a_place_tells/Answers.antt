@@ -1,16 +1,9 @@
 -- What stands at a place, and what it gets there.
-use Rattle.std.proofs.Common.{List, None, Some, [], arith, length, refl, suc, zero, ℕ, ◌∷◌, ◌≡◌}
-use Rattle.urb_group.specs.GroupViews.{Shows, view_of}
-use Rattle.urb_world.specs.Step.{Crash, Tick, run, step}
-use Rattle.urb_world.specs.World.{World, started, stored}
-use Rattle.urb_world.specs.internal.Examples.{limits}
-use Rattle.urb_names.specs.Names.{name}
-use Rattle.urb_node.specs.NodeViews.{ShowsNode, no_view}
-use Rattle.urb_node.specs.Part.{opened_node}
-use Rattle.urb_node.specs.Replies.{Refused, Sent}
-use Rattle.urb_show.specs.internal.Examples.{told}
-use Rattle.urb_show.specs.internal.ReaderExamples.{new_four, shows_none}
-use Rattle.urb_stable.specs.DeliveredLogs.{log}
+use Rattle.urb_show.proofs.Common.{Crash, List, None, Refused, Sent, Shows, ShowsNode, Some, Tick}
+use Rattle.urb_show.proofs.Common.{World, [], arith, length, limits, log, name, new_four, no_view}
+use Rattle.urb_show.proofs.Common.{opened_node, refl, run, shows_none, started, stored, suc, told}
+use Rattle.urb_show.proofs.Common.{view_of, zero, ℕ, ◌∷◌, ◌≡◌}
+use Rattle.urb_world.specs.Step.{step}
 use Rattle.urb_stable.specs.Entries.{Entry}
 use Rattle.urb_names.specs.declared.refusal.Refusal.TheVariants as refusal
 use Rattle.urb_show.proofs.worked.pages.what_a_place_tells.Goals as goal

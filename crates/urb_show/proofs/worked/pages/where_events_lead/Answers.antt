@@ -1,14 +1,7 @@
 -- Events lead from what a group shows.
-use Rattle.std.proofs.Common.{List, [], arith, length, refl, suc, zero, ℕ, ◌∷◌, ◌≡◌}
-use Rattle.urb_group.specs.GroupViews.{Shows, view_of}
-use Rattle.urb_world.specs.Step.{run}
-use Rattle.urb_world.specs.World.{World, started, stored}
-use Rattle.urb_world.specs.internal.Examples.{limits}
-use Rattle.urb_names.specs.Names.{name}
-use Rattle.urb_node.specs.NodeViews.{ShowsNode, no_view}
-use Rattle.urb_node.specs.Part.{opened_node}
-use Rattle.urb_show.specs.internal.ReaderExamples.{new_four, shows_none}
-use Rattle.urb_stable.specs.DeliveredLogs.{log}
+use Rattle.urb_show.proofs.Common.{List, Shows, ShowsNode, World, [], arith, length, limits, log}
+use Rattle.urb_show.proofs.Common.{name, new_four, no_view, opened_node, refl, run, shows_none}
+use Rattle.urb_show.proofs.Common.{started, stored, suc, view_of, zero, ℕ, ◌∷◌, ◌≡◌}
 use Rattle.urb_stable.specs.Entries.{Entry}
 use Rattle.urb_show.proofs.worked.pages.where_events_lead.Goals as goal
 

@@ -1,14 +1,7 @@
 -- A read without memory takes lists or doesn't.
-use Rattle.std.proofs.Common.{List, [], ap, arith, inl, inr, length, refl, ⊎_elim, ◌∷◌, ◌≡◌}
-use Rattle.urb_group.specs.GroupViews.{Shows}
-use Rattle.urb_world.specs.Step.{Tick}
-use Rattle.urb_world.specs.World.{World, stored}
-use Rattle.urb_names.specs.Names.{name}
-use Rattle.urb_show.specs.Lists.{Agree}
-use Rattle.urb_show.specs.Readers.{ReaderView}
-use Rattle.urb_show.specs.internal.Examples.{told}
-use Rattle.urb_show.specs.internal.ReaderExamples.{shows_none}
-use Rattle.urb_stable.specs.DeliveredLogs.{log}
+use Rattle.urb_show.proofs.Common.{Agree, List, ReaderView, Shows, Tick, World, [], ap, arith, inl}
+use Rattle.urb_show.proofs.Common.{inr, length, log, name, refl, shows_none, stored, told, ⊎_elim}
+use Rattle.urb_show.proofs.Common.{◌∷◌, ◌≡◌}
 use Rattle.urb_stable.specs.Entries.{Entry}
 use Rattle.urb_show.proofs.worked.readers.what_a_fault_leaves.Goals as goal
 

@@ -1,16 +1,9 @@
 -- What a read can't take.
-use Rattle.std.proofs.Common.{List, [], arith, inl, length, refl, suc, zero, ℕ, ◌∷◌, ◌≡◌}
-use Rattle.urb_group.specs.GroupViews.{Shows, view_of}
-use Rattle.urb_world.specs.Step.{Tick, run}
-use Rattle.urb_world.specs.World.{World, started, stored}
-use Rattle.urb_world.specs.internal.Examples.{limits}
-use Rattle.urb_names.specs.Names.{name}
-use Rattle.urb_node.specs.NodeViews.{ShowsNode, no_view}
-use Rattle.urb_node.specs.Part.{opened_node}
-use Rattle.urb_show.specs.Lists.{Agree, Begins, Lists}
-use Rattle.urb_show.specs.internal.Examples.{told}
-use Rattle.urb_show.specs.internal.ReaderExamples.{new_four, shows_none}
-use Rattle.urb_stable.specs.DeliveredLogs.{log}
+use Rattle.urb_show.proofs.Common.{Agree, List, Lists, Shows, ShowsNode, Tick, World, [], arith}
+use Rattle.urb_show.proofs.Common.{inl, length, limits, log, name, new_four, no_view, opened_node}
+use Rattle.urb_show.proofs.Common.{refl, run, shows_none, started, stored, suc, told, view_of, zero}
+use Rattle.urb_show.proofs.Common.{ℕ, ◌∷◌, ◌≡◌}
+use Rattle.urb_show.specs.Lists.{Begins}
 use Rattle.urb_stable.specs.Entries.{Entry}
 use Rattle.urb_show.proofs.worked.readers.what_a_read_takes.Goals as goal
 

@@ -1,8 +1,6 @@
 -- What a token can't tell.
-use Rattle.std.proofs.Common.{List, [], ⊎_elim, ◌∷◌, ◌≡◌}
-use Rattle.urb_world.specs.Step.{Tick}
-use Rattle.urb_show.specs.Lists.{Begins, Lists}
-use Rattle.urb_show.specs.internal.Examples.{told}
+use Rattle.urb_show.proofs.Common.{List, Lists, Tick, [], told, ⊎_elim, ◌∷◌, ◌≡◌}
+use Rattle.urb_show.specs.Lists.{Begins}
 use Rattle.urb_show.proofs.worked.readers.what_a_token_tells.Goals as goal
 
 some-none : {A : Type 0} (x : A) (xs : List A) → x ∷ xs ≡ [] → ⊥

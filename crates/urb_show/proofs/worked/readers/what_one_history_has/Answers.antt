@@ -1,7 +1,6 @@
 -- Lists that disagree, or of which neither begins the other.
-use Rattle.std.proofs.Common.{List, [], ⊎_elim, ◌∷◌, ◌≡◌}
-use Rattle.urb_show.specs.Lists.{Begins, Lists}
-use Rattle.urb_show.specs.internal.Examples.{told}
+use Rattle.urb_show.proofs.Common.{List, Lists, [], told, ⊎_elim, ◌∷◌, ◌≡◌}
+use Rattle.urb_show.specs.Lists.{Begins}
 use Rattle.urb_show.proofs.worked.readers.what_one_history_has.Goals as goal
 
 some-none : {A : Type 0} (x : A) (xs : List A) → x ∷ xs ≡ [] → ⊥

@@ -1,8 +1,5 @@
-use Rattle.std.proofs.Common.{[], ap, inl, inr, refl, ⊎_elim, ◌∷◌, ◌≡◌}
+use Rattle.urb_show.proofs.Common.{Node, [], ap, inl, inr, m1, name, refl, ⊎_elim, ◌∷◌, ◌≡◌}
 use Rattle.urb_group.specs.declared.state.State.TheVariants as state
-use Rattle.urb_names.specs.Names.{name}
-use Rattle.urb_show.specs.Service.{Node}
-use Rattle.urb_show.specs.internal.ServiceExamples.{m1}
 use Rattle.urb_show.proofs.worked.service.failures.Goals as goal
 
 pub returns-clause-crash : goal.returns-clause-crash

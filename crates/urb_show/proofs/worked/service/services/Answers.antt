@@ -1,8 +1,6 @@
-use Rattle.std.proofs.Common.{Bool, [], ap, arith, cond, false, inl, inr, refl, true, ⊎_elim}
-use Rattle.std.proofs.Common.{◌==◌, ◌∷◌, ◌≡◌, ◌≤◌}
-use Rattle.urb_names.specs.Names.{name}
-use Rattle.urb_show.specs.Service.{Node, Resumes}
-use Rattle.urb_show.specs.internal.ServiceExamples.{m1, m2, pair_of, ready, storing}
+use Rattle.urb_show.proofs.Common.{Bool, Node, Resumes, [], ap, arith, cond, false, inl, inr, m1}
+use Rattle.urb_show.proofs.Common.{m2, name, ready, refl, true, ⊎_elim, ◌==◌, ◌∷◌, ◌≡◌, ◌≤◌}
+use Rattle.urb_show.specs.internal.ServiceExamples.{pair_of, storing}
 use Rattle.urb_show.proofs.worked.service.services.Goals as goal
 
 pub returns-clause-another_node : goal.returns-clause-another_node

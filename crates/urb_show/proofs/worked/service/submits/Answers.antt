@@ -1,6 +1,5 @@
-use Rattle.std.proofs.Common.{ap, refl, ◌≡◌}
+use Rattle.urb_show.proofs.Common.{Node, ap, refl, ◌≡◌}
 use Rattle.urb_group.specs.declared.state.State.TheVariants as state
-use Rattle.urb_show.specs.Service.{Node}
 use Rattle.urb_show.proofs.worked.service.submits.Goals as goal
 
 pub returns-clause-new : goal.returns-clause-new

@@ -1,13 +1,8 @@
 -- What no crash, no restart, no write and no failure does.
-use Rattle.std.proofs.Common.{List, None, Some, [], ap, refl, sym, ◌∷◌, ◌≡◌}
-use Rattle.urb_names.specs.LabelsAndContents.{Content}
-use Rattle.urb_show.specs.Service.{Node}
-use Rattle.urb_show.specs.internal.Examples.{told}
-use Rattle.urb_show.specs.internal.ServiceExamples.{m1}
+use Rattle.urb_show.proofs.Common.{Content, List, Node, None, Refusal, Some, State, [], ap, m1}
+use Rattle.urb_show.proofs.Common.{refl, sym, told, ◌∷◌, ◌≡◌}
 use Rattle.urb_group.specs.declared.state.State.TheVariants as state
-use Rattle.urb_group.specs.declared.state.State.{State}
 use Rattle.urb_names.specs.declared.refusal.Refusal.TheVariants as refusal
-use Rattle.urb_names.specs.declared.refusal.Refusal.{Refusal}
 use Rattle.urb_show.proofs.worked.service_acts.no_failures.Goals as goal
 
 lost : (xs : List Content) → [] ≡ m1 ∷ xs → ⊥

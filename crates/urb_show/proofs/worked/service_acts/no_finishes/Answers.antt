@@ -1,13 +1,8 @@
 -- What no node finishes.
-use Rattle.std.proofs.Common.{List, [], ap, arith, length, refl, subst, sym, zero, ◌∷◌, ◌≡◌}
-use Rattle.urb_names.specs.LabelsAndContents.{Content, Label}
-use Rattle.urb_names.specs.Names.{name}
-use Rattle.urb_show.specs.Service.{Join, Node, Service}
-use Rattle.urb_show.specs.internal.Examples.{told}
-use Rattle.urb_show.specs.internal.ServiceExamples.{both, m1}
+use Rattle.urb_show.proofs.Common.{Content, Join, Label, List, Node, Service, State, [], ap, arith}
+use Rattle.urb_show.proofs.Common.{length, m1, name, refl, subst, sym, told, zero, ◌∷◌, ◌≡◌, ◌≤◌}
+use Rattle.urb_show.specs.internal.ServiceExamples.{both}
 use Rattle.urb_group.specs.declared.state.State.TheVariants as state
-use Rattle.urb_group.specs.declared.state.State.{State}
-use Rattle.std.proofs.Common.{◌≤◌}
 use Rattle.urb_show.proofs.worked.service_acts.no_finishes.Goals as goal
 
 lost : (xs : List Content) → [] ≡ m1 ∷ xs → ⊥

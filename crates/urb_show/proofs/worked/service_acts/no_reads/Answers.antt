@@ -1,10 +1,7 @@
 -- What no READ and no STATUS tells.
-use Rattle.std.proofs.Common.{List, Option, [], ap, arith, refl, ℕ, ◌∷◌, ◌≡◌}
-use Rattle.urb_names.specs.LabelsAndContents.{Content, Label}
-use Rattle.urb_show.specs.Service.{Node}
-use Rattle.urb_show.specs.internal.ServiceExamples.{m1}
+use Rattle.urb_show.proofs.Common.{Content, Label, List, Node, Option, State, [], ap, arith, m1}
+use Rattle.urb_show.proofs.Common.{refl, ℕ, ◌∷◌, ◌≡◌}
 use Rattle.urb_group.specs.declared.state.State.TheVariants as state
-use Rattle.urb_group.specs.declared.state.State.{State}
 use Rattle.urb_show.proofs.worked.service_acts.no_reads.Goals as goal
 
 lost : (xs : List Content) → [] ≡ m1 ∷ xs → ⊥

@@ -1,10 +1,7 @@
 -- What no step and no start changes.
-use Rattle.std.proofs.Common.{Bool, List, [], ap, arith, ne_eqb, refl, subst, sym, ◌∷◌, ◌≡◌}
-use Rattle.urb_names.specs.LabelsAndContents.{Content, Limits}
-use Rattle.urb_names.specs.Names.{name}
-use Rattle.urb_show.specs.Service.{Node}
-use Rattle.urb_show.specs.internal.ServiceExamples.{down, m1, m2, ready}
-use Rattle.std.proofs.Common.{if◌then◌else◌}
+use Rattle.urb_show.proofs.Common.{Bool, Content, Limits, List, Node, [], ap, arith, if◌then◌else◌}
+use Rattle.urb_show.proofs.Common.{m1, m2, name, ne_eqb, ready, refl, subst, sym, ◌∷◌, ◌≡◌}
+use Rattle.urb_show.specs.internal.ServiceExamples.{down}
 use Rattle.urb_show.proofs.worked.service_acts.no_steps.Goals as goal
 
 lost : (xs : List Content) → [] ≡ m1 ∷ xs → ⊥

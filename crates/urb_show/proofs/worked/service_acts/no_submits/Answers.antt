@@ -1,10 +1,6 @@
 -- What no SUBMIT does.
-use Rattle.std.proofs.Common.{List, None, Ok, Some, [], ap, arith, ℕ, ◌∷◌, ◌≡◌}
-use Rattle.urb_names.specs.LabelsAndContents.{Content}
-use Rattle.urb_show.specs.Answers.{Answer}
-use Rattle.urb_show.specs.Service.{Node}
-use Rattle.urb_show.specs.internal.ServiceExamples.{m1}
-use Rattle.std.proofs.Common.{Err}
+use Rattle.urb_show.proofs.Common.{Answer, Content, Err, List, Node, None, Ok, Some, [], ap, arith}
+use Rattle.urb_show.proofs.Common.{m1, ℕ, ◌∷◌, ◌≡◌}
 use Rattle.urb_show.proofs.worked.service_acts.no_submits.Goals as goal
 
 lost : (xs : List Content) → [] ≡ m1 ∷ xs → ⊥

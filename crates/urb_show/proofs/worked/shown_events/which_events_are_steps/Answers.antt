@@ -1,18 +1,15 @@
 -- A crash of a new group is a step, and a delivery without its message is none.
-use Rattle.std.proofs.Common.{Bool, List, [], ap, arith, false, length, ne_eqb, refl, subst, sym}
-use Rattle.std.proofs.Common.{true, zero, ℕ, ◌∷◌, ◌≡◌}
-use Rattle.urb_world.specs.Step.{Commit, Crash, Tick, step}
-use Rattle.urb_world.specs.World.{World, started, updated}
-use Rattle.urb_world.specs.internal.Examples.{limits}
-use Rattle.urb_names.specs.LabelsAndContents.{Content, Label}
-use Rattle.urb_names.specs.Names.{name}
-use Rattle.urb_show.specs.Service.{Does, Join, Node, Service}
-use Rattle.urb_show.specs.Service as seen
-use Rattle.urb_show.specs.ShownServices.{ShowsEvent, ShowsStep, shown, shown_node}
+use Rattle.urb_show.proofs.Common.{Bool, Commit, Content, Crash, Does, Join, Label, List, Node}
+use Rattle.urb_show.proofs.Common.{Service, ShowsStep, Tick, World, [], ap, arith, false}
+use Rattle.urb_show.proofs.Common.{false≢true, if◌then◌else◌, length, limits, name, ne_eqb, refl}
+use Rattle.urb_show.proofs.Common.{shown_node, started, subst, sym, true, zero, ℕ, ◌++◌, ◌∙◌, ◌∷◌}
+use Rattle.urb_show.proofs.Common.{◌≡◌, ◌≤◌}
+use Rattle.urb_world.specs.Step.{step}
+use Rattle.urb_world.specs.World.{updated}
+use Rattle.urb_show.specs.ShownServices.{ShowsEvent, shown}
 use Rattle.urb_show.specs.internal.ReaderExamples.{certified_of_two, unaccepted}
-use Rattle.std.proofs.Common.{if◌then◌else◌, ◌++◌, ◌∙◌, ◌≤◌}
-use Rattle.std.proofs.lemmas.Bool.{false≢true}
 use Rattle.urb_node.specs.Part.{Node as Part}
+use Rattle.urb_show.specs.Service as seen
 use Rattle.urb_names.specs.declared.refusal.Refusal.TheVariants as refusal
 use Rattle.urb_show.proofs.worked.shown_events.which_events_are_steps.Goals as goal
 

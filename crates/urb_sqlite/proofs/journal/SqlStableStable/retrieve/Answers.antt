@@ -1,10 +1,6 @@
-use Rattle.std.proofs.Common.{false, subst, ◌≡◌, ◌⊎◌, ⊎_elim}
-use Rattle.std.proofs.lemmas.Result.{err_from_is_err_and}
-use Rattle.sqlite.specs.State.{HasCleanDisk}
-use Rattle.sqlite.specs.Held.{state}
-use Rattle.urb_sqlite.specs.OpenJournal.{OpenJournal, IsHonestJournal, IsShutJournal, LeavesOnly}
-use Rattle.urb_sqlite.specs.RowReadings.{records_of}
-use Rattle.urb_stable.specs.StableStorage.{is_bad_row}
+use Rattle.urb_sqlite.proofs.Common.{HasCleanDisk, IsHonestJournal, IsShutJournal, LeavesOnly}
+use Rattle.urb_sqlite.proofs.Common.{OpenJournal, err_from_is_err_and, false, is_bad_row}
+use Rattle.urb_sqlite.proofs.Common.{records_of, state, subst, ⊎_elim, ◌≡◌, ◌⊎◌}
 use Rattle.urb_sqlite.proofs.KeptRecords.{honest_before, left, not_bad, stops_at_select}
 use Rattle.urb_sqlite.proofs.TableReadings.{given_by_read}
 use Rattle.urb_sqlite.proofs.journal.SqlStableStable.retrieve.Goals as goal

@@ -1,9 +1,6 @@
-use Rattle.std.proofs.Common.{rules, ◌≡◌, ◌⊎◌, ◌+◌, inl, ◌++◌, sym, subst, length}
-use Rattle.sqlite.specs.State.{HasCleanDisk}
-use Rattle.sqlite.specs.Held.{state}
-use Rattle.urb_sqlite.specs.OpenJournal.{IsSafeAtRest, OpenJournal, IsHonestJournal, LeavesOnly}
-use Rattle.urb_sqlite.specs.internal.JournalChanges.{IsInStep}
-use Rattle.urb_sqlite.specs.RowReadings.{records_of}
+use Rattle.urb_sqlite.proofs.Common.{HasCleanDisk, IsHonestJournal, IsInStep, IsSafeAtRest}
+use Rattle.urb_sqlite.proofs.Common.{LeavesOnly, OpenJournal, inl, length, records_of, rules, state}
+use Rattle.urb_sqlite.proofs.Common.{subst, sym, ◌++◌, ◌+◌, ◌≡◌, ◌⊎◌}
 use Rattle.urb_sqlite.proofs.KeptRecords.{stops_now}
 use Rattle.urb_sqlite.proofs.journal.SqlStableStable.store_all.Goals as goal
 

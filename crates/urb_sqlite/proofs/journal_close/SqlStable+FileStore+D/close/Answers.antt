@@ -1,6 +1,4 @@
-use Rattle.std.proofs.Common.{subst}
-use Rattle.sqlite.specs.Files.{file_state}
-use Rattle.sqlite.specs.Held.{Held}
+use Rattle.urb_sqlite.proofs.Common.{Held, file_state, subst}
 use Rattle.urb_sqlite.proofs.journal_close.SqlStable+FileStore+D.close.Goals as goal
 
 pub invariant_of-result : goal.invariant_of-result

@@ -1,6 +1,4 @@
-use Rattle.std.proofs.lemmas.Result.{IfOk-weaker}
-use Rattle.sqlite.specs.Files.{file_state}
-use Rattle.urb_sqlite.specs.JournalTables.{journal_name, second_name}
+use Rattle.urb_sqlite.proofs.Common.{IfOk-weaker, file_state, journal_name, second_name}
 use Rattle.urb_sqlite.proofs.JournalSchemas.{bare_lacks}
 use Rattle.urb_sqlite.proofs.KeptRecords.{earlier_clean}
 use Rattle.urb_sqlite.proofs.journal_open.SqlStable+FileStore+D.make_files.Goals as goal

@@ -1,11 +1,6 @@
-use Rattle.std.proofs.Common.{◌≡◌, ◌∙◌, sym}
+use Rattle.urb_sqlite.proofs.Common.{HasCleanDisk, IfOk-weaker, IsHonestJournal, file_state}
+use Rattle.urb_sqlite.proofs.Common.{image_of, records_of, same_image, sym, ◌∙◌, ◌≡◌}
 use Rattle.std.proofs.lemmas.Bool.{true≢false}
-use Rattle.std.proofs.lemmas.Result.{IfOk-weaker}
-use Rattle.sqlite.specs.Files.{file_state, image_of}
-use Rattle.sqlite.specs.State.{HasCleanDisk}
-use Rattle.sqlite.proofs.FileLemmas.{same_image}
-use Rattle.urb_sqlite.specs.OpenJournal.{IsHonestJournal}
-use Rattle.urb_sqlite.specs.RowReadings.{records_of}
 use Rattle.urb_sqlite.proofs.JournalStops.{both_ok}
 use Rattle.urb_sqlite.proofs.NodeJournals.{found_in, found_new}
 use Rattle.urb_sqlite.proofs.journal_open.SqlStable+FileStore+D.open_files.Goals as goal

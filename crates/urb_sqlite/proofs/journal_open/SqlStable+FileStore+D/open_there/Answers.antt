@@ -1,5 +1,4 @@
-use Rattle.std.proofs.lemmas.Result.{IfOk-weaker}
-use Rattle.sqlite.specs.Files.{file_state, image_of}
+use Rattle.urb_sqlite.proofs.Common.{IfOk-weaker, file_state, image_of}
 use Rattle.urb_sqlite.proofs.KeptRecords.{earlier_clean}
 use Rattle.urb_sqlite.proofs.NodeJournals.{found_there}
 use Rattle.urb_sqlite.proofs.journal_open.SqlStable+FileStore+D.open_there.Goals as goal

@@ -1,5 +1,4 @@
-use Rattle.std.proofs.Common.{refl}
-use Rattle.std.proofs.lemmas.Result.{IfOk-weaker}
+use Rattle.urb_sqlite.proofs.Common.{IfOk-weaker, refl}
 use Rattle.urb_sqlite.proofs.journal_open.SqlStable+FileStore+File.open.Goals as goal
 
 pub returns-clause-fresh : goal.returns-clause-fresh

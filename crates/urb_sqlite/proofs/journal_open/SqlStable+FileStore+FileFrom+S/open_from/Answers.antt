@@ -1,5 +1,4 @@
-use Rattle.std.proofs.lemmas.Result.{IfOk-weaker}
-use Rattle.sqlite.specs.Files.{file_state}
+use Rattle.urb_sqlite.proofs.Common.{IfOk-weaker, file_state}
 use Rattle.sqlite_wal.specs.Files.{image_at}
 use Rattle.urb_sqlite.proofs.NodeJournals.{found_there}
 use Rattle.urb_sqlite.proofs.journal_open.SqlStable+FileStore+FileFrom+S.open_from.Goals as goal

@@ -1,14 +1,8 @@
-use Rattle.std.proofs.Common.{◌≡◌, ◌⊎◌, List, [], ◌∷◌, ◌++◌, sym, subst}
-use Rattle.std.proofs.Math.Logic.{∥∥₁_map}
-use Rattle.std.proofs.lemmas.Result.{IfOk-weaker}
-use Rattle.sqlite.specs.State.{HasCleanDisk}
-use Rattle.sqlite.specs.Held.{Held}
-use Rattle.sqlite.specs.Files.{file_state}
-use Rattle.urb_stable.specs.Entries.{Entry}
-use Rattle.urb_sqlite.specs.OpenJournal.{LeavesOnly}
+use Rattle.urb_sqlite.proofs.Common.{Entry, HasCleanDisk, Held, IfOk-weaker, LeavesOnly, List, []}
+use Rattle.urb_sqlite.proofs.Common.{file_state, subst, sym, ∥∥₁_map, ◌++◌, ◌∷◌, ◌≡◌, ◌⊎◌}
 use Rattle.urb_sqlite.specs.ReopenedJournals.{FindsWhatIsLeft}
-use Rattle.urb_sqlite.proofs.JournalStops.{found_again, honest_again, same_again, one_again}
-use Rattle.urb_sqlite.proofs.JournalStops.{both_ok, contents_again, crashed, store_was_clean}
+use Rattle.urb_sqlite.proofs.JournalStops.{both_ok, contents_again, crashed, found_again}
+use Rattle.urb_sqlite.proofs.JournalStops.{honest_again, one_again, same_again, store_was_clean}
 use Rattle.urb_sqlite.proofs.journal_stop.SqlStable+FileStore+D.stop_and_open.Goals as goal
 
 pub returns : goal.returns

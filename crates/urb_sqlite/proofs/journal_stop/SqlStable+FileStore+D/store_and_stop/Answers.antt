@@ -1,5 +1,4 @@
-use Rattle.std.proofs.lemmas.Result.{IfOk-weaker}
-use Rattle.sqlite.specs.Files.{file_state}
+use Rattle.urb_sqlite.proofs.Common.{IfOk-weaker, file_state}
 use Rattle.urb_sqlite.proofs.JournalStops.{found_after}
 use Rattle.urb_sqlite.proofs.journal_stop.SqlStable+FileStore+D.store_and_stop.Goals as goal
 

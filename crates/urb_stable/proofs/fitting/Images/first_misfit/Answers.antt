@@ -1,11 +1,7 @@
-use Rattle.std.proofs.Common.{List, Some, [], ap, arith, length, map, refl, slice_get, subst, suc}
-use Rattle.std.proofs.Common.{sym, ◌<◌, ◌∙◌, ◌≡◌, ◌≤◌}
+use Rattle.urb_stable.proofs.Common.{Entry, List, NodeImage, Some, [], ap, arith, first_of_all}
+use Rattle.urb_stable.proofs.Common.{image_of, length, map, misfits_behind, refl, slice_get}
+use Rattle.urb_stable.proofs.Common.{slice_get_read, subst, suc, sym, ◌<◌, ◌∙◌, ◌≡◌, ◌≤◌}
 use Rattle.std.proofs.lemmas.List.{length-map}
-use Rattle.std.proofs.lemmas.Option.{slice_get_read}
-use Rattle.urb_stable.specs.Entries.{Entry}
-use Rattle.urb_stable.specs.Fitting.{first_of_all, misfits_behind}
-use Rattle.urb_stable.specs.Images.{image_of}
-use Rattle.urb_stable.specs.internal.NumberedImages.{NodeImage}
 use Rattle.urb_stable.proofs.FirstMisfits.{found, image-at, node-none, node-step, node-told, passed}
 use Rattle.urb_stable.proofs.fitting.Images.first_misfit.Goals as goal
 

@@ -1,8 +1,6 @@
-use Rattle.std.proofs.Common.{[], suc, ◌-◌, ◌≡◌}
-use Rattle.std.specs.Prelude.{flat_map}
-use Rattle.urb_names.specs.Nodes.{numbers_from}
-use Rattle.urb_stable.specs.Fitting.{first_misfit, first_of_all, misfits_behind}
-use Rattle.urb_stable.specs.Images.{image_of}
+use Rattle.urb_stable.proofs.Common.{[], first_of_all, flat_map, image_of, misfits_behind}
+use Rattle.urb_stable.proofs.Common.{numbers_from, suc, ◌-◌, ◌≡◌}
+use Rattle.urb_stable.specs.Fitting.{first_misfit}
 use Rattle.urb_stable.proofs.fitting.Images.first_misfit.Given as goal
 
 abbrev pub invariant-loop-i : goal.invariant-loop-i

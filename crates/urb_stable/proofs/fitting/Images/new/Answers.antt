@@ -1,5 +1,4 @@
-use Rattle.std.proofs.Common.{List, ap, ◌+◌}
-use Rattle.urb_stable.specs.Entries.{Entry}
+use Rattle.urb_stable.proofs.Common.{Entry, List, ap, ◌+◌}
 use Rattle.urb_stable.proofs.ReadImages.{read-more}
 use Rattle.urb_stable.proofs.fitting.Images.new.Goals as goal
 

@@ -1,9 +1,5 @@
-use Rattle.std.proofs.Common.{Some, arith, length, refl, subst, sym, take, ◌<◌, ◌≡◌}
-use Rattle.std.proofs.lemmas.Option.{slice_get_read}
-use Rattle.std.specs.Prelude.{slice_get}
-use Rattle.urb_stable.specs.internal.EarlierRecords.{IsBefore}
-use Rattle.urb_stable.specs.Entries.{Entry}
-use Rattle.urb_stable.specs.internal.NumberedImages.{NodeImage}
+use Rattle.urb_stable.proofs.Common.{Entry, IsBefore, NodeImage, Some, arith, length, refl}
+use Rattle.urb_stable.proofs.Common.{slice_get, slice_get_read, subst, sym, take, ◌<◌, ◌≡◌}
 use Rattle.urb_stable.proofs.image.Image.facts_before.Goals as goal
 
 pub returns : goal.returns

@@ -1,6 +1,5 @@
-use Rattle.std.proofs.Common.{arith, ◌≡◌, ◌∙◌, ◌≤◌, ◌+◌, ap, refl, length, take, None, false}
-use Rattle.std.specs.Prelude.{slice_get}
-use Rattle.urb_stable.specs.MemoryStores.{Memory, with_doubt}
+use Rattle.urb_stable.proofs.Common.{Memory, None, ap, arith, false, length, refl, slice_get, take}
+use Rattle.urb_stable.proofs.Common.{with_doubt, ◌+◌, ◌∙◌, ◌≡◌, ◌≤◌}
 use Rattle.urb_stable.specs.internal.MemoryCalls.{retrieved}
 use Rattle.urb_stable.proofs.AppendedElements.{whole}
 use Rattle.urb_stable.proofs.memory.MemStableStable.retrieve.Goals as goal

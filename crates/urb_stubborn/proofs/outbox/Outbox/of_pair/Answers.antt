@@ -1,7 +1,5 @@
-use Rattle.std.proofs.Common.{◌≤◌, ◌≡◌, length, arith, rules, ap}
-use Rattle.urb_names.specs.declared.limits.TheConstants.{MAX_NODES}
-use Rattle.urb_names.specs.LabelsAndContents.{Content, Label}
-use Rattle.urb_names.specs.CarriedPackets.{is_heard_of, to_others}
+use Rattle.urb_stubborn.proofs.Common.{Content, Label, MAX_NODES, ap, arith, is_heard_of, length}
+use Rattle.urb_stubborn.proofs.Common.{rules, to_others, ◌≡◌, ◌≤◌}
 use Rattle.urb_stubborn.proofs.SentPackets.{at_most_to_all}
 use Rattle.urb_stubborn.proofs.outbox.Outbox.of_pair.Goals as goal
 

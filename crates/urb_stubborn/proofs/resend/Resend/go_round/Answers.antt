@@ -1,10 +1,6 @@
-use Rattle.std.proofs.Common.{◌≡◌, ◌∙◌, List, Option, None, is_some, not, true, false, sym}
-use Rattle.std.proofs.Common.{ap, subst, take, []}
-use Rattle.urb_names.specs.declared.limits.TheConstants.{NAMES_PER_TICK}
-use Rattle.urb_names.specs.LabelsAndContents.{Label}
-use Rattle.urb_names.specs.CarriedPackets.{Carried}
-use Rattle.urb_stubborn.specs.Resends.{Resending}
-use Rattle.urb_stubborn.specs.internal.TickWalks.{IsWalked, between, due_pairs}
+use Rattle.urb_stubborn.proofs.Common.{Carried, IsWalked, Label, List, NAMES_PER_TICK, None, Option}
+use Rattle.urb_stubborn.proofs.Common.{Resending, [], ap, between, due_pairs, false, is_some, not}
+use Rattle.urb_stubborn.proofs.Common.{subst, sym, take, true, ◌∙◌, ◌≡◌}
 use Rattle.urb_stubborn.proofs.PairsAfterCursor.{Pairs}
 use Rattle.urb_stubborn.proofs.TickProgress.{if_ok_more, no_cursor, some_cursor, tick_around}
 use Rattle.urb_stubborn.proofs.TickProgress.{tick_straight}

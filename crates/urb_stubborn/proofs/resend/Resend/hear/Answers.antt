@@ -1,12 +1,7 @@
-use Rattle.std.proofs.Common.{◌≡◌, ◌∙◌, ◌<◌, ◌+◌, ◌-◌, false, true, sym, ap, rules, arith, refl}
-use Rattle.std.proofs.lemmas.Bool.{false≢true}
-use Rattle.urb_names.specs.declared.limits.TheConstants.{MAX_SENDERS}
-use Rattle.urb_names.specs.LabelsAndContents.{Label}
-use Rattle.urb_names.specs.Names.{has_name}
-use Rattle.urb_names.specs.Acknowledgements.{ack_lt}
-use Rattle.urb_names.specs.RisingLists.{placed}
+use Rattle.urb_stubborn.proofs.Common.{Label, MAX_SENDERS, Resending, ack_lt, ap, arith, false}
+use Rattle.urb_stubborn.proofs.Common.{false≢true, has_name, placed, refl, rules, sym, true, ◌+◌}
+use Rattle.urb_stubborn.proofs.Common.{◌-◌, ◌<◌, ◌∙◌, ◌≡◌}
 use Rattle.urb_window.specs.Marks.{MarkSet, with_mark}
-use Rattle.urb_stubborn.specs.Resends.{Resending}
 use Rattle.urb_stubborn.proofs.SettledCounts.{kept_heard}
 use Rattle.urb_stubborn.proofs.resend.Resend.hear.Goals as goal
 

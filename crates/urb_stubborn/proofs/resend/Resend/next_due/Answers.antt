@@ -1,7 +1,5 @@
-use Rattle.std.proofs.Common.{◌≡◌, ◌∙◌, Some, None, true, sym, ap}
-use Rattle.urb_names.specs.CarriedPackets.{is_due}
-use Rattle.urb_pending.specs.PendingSet.{first_name}
-use Rattle.urb_stubborn.specs.internal.TickWalks.{IsPassed, behind}
+use Rattle.urb_stubborn.proofs.Common.{IsPassed, None, Some, ap, behind, first_name, is_due, sym}
+use Rattle.urb_stubborn.proofs.Common.{true, ◌∙◌, ◌≡◌}
 use Rattle.urb_stubborn.proofs.PairsAfterCursor.{first_due, none_due, passed_fewer, passed_same}
 use Rattle.urb_stubborn.proofs.resend.Resend.next_due.Goals as goal
 

@@ -1,5 +1,4 @@
-use Rattle.std.proofs.Common.{◌≡◌, length}
-use Rattle.urb_stubborn.specs.internal.TickWalks.{behind, due_pairs}
+use Rattle.urb_stubborn.proofs.Common.{behind, due_pairs, length, ◌≡◌}
 use Rattle.urb_stubborn.proofs.resend.Resend.next_due.Given as goal
 
 -- what was passed is not due

@@ -1,6 +1,5 @@
-use Rattle.std.proofs.Common.{◌≡◌, ◌∙◌, Some, false, sym}
-use Rattle.urb_pending.specs.PendingSet.{first_name}
-use Rattle.urb_stubborn.specs.internal.TickWalks.{behind, due_pairs, is_within}
+use Rattle.urb_stubborn.proofs.Common.{Some, behind, due_pairs, false, first_name, is_within, sym}
+use Rattle.urb_stubborn.proofs.Common.{◌∙◌, ◌≡◌}
 use Rattle.urb_stubborn.proofs.PairsAfterCursor.{Pairs}
 use Rattle.urb_stubborn.proofs.PairRanges.{rising_kept, within_over}
 use Rattle.urb_stubborn.proofs.resend.Resend.next_within.Goals as goal

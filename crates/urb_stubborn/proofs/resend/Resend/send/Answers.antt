@@ -1,12 +1,6 @@
-use Rattle.std.proofs.Common.{◌≡◌, ◌∙◌, ◌++◌, Some, sym, ap, subst, arith, [], Bool}
-use Rattle.std.proofs.Common.{false, filter, not}
-use Rattle.std.specs.Prelude.{option_map}
-use Rattle.urb_names.specs.Acknowledgements.{acked}
-use Rattle.urb_names.specs.CarriedPackets.{others, packets_to}
-use Rattle.urb_names.specs.Pairs.{message_of}
-use Rattle.urb_pending.specs.PendingSet.{first_name}
-use Rattle.urb_stubborn.specs.Resends.{Resending}
-use Rattle.urb_stubborn.specs.internal.TickWalks.{between, due_pairs}
+use Rattle.urb_stubborn.proofs.Common.{Bool, Resending, Some, [], acked, ap, arith, between}
+use Rattle.urb_stubborn.proofs.Common.{due_pairs, false, filter, first_name, message_of, not}
+use Rattle.urb_stubborn.proofs.Common.{option_map, others, packets_to, subst, sym, ◌++◌, ◌∙◌, ◌≡◌}
 use Rattle.urb_stubborn.proofs.PairsAfterCursor.{Pairs}
 use Rattle.urb_stubborn.proofs.TickProgress.{Walks, all_walked, begun, no_name, one_further, sends}
 use Rattle.urb_stubborn.proofs.TickProgress.{some_behind, some_message, turn_over}

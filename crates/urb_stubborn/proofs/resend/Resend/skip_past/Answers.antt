@@ -1,6 +1,4 @@
-use Rattle.std.proofs.Common.{◌≡◌, ◌∙◌, false, sym, ap}
-use Rattle.urb_names.specs.CarriedPackets.{is_due}
-use Rattle.urb_stubborn.specs.Resends.{Resending}
+use Rattle.urb_stubborn.proofs.Common.{Resending, ap, false, is_due, sym, ◌∙◌, ◌≡◌}
 use Rattle.urb_stubborn.proofs.SettledCounts.{passed_itself}
 use Rattle.urb_stubborn.proofs.resend.Resend.skip_past.Goals as goal
 

@@ -1,7 +1,5 @@
-use Rattle.std.proofs.Common.{◌≡◌, ◌∙◌, ◌≤◌, ap, arith, rules, length}
-use Rattle.urb_names.specs.declared.limits.TheConstants.{MAX_NODES}
-use Rattle.urb_stubborn.specs.Resends.{Resending}
-use Rattle.urb_stubborn.specs.internal.TickWalks.{IsTick}
+use Rattle.urb_stubborn.proofs.Common.{IsTick, MAX_NODES, Resending, ap, arith, length, rules, ◌∙◌}
+use Rattle.urb_stubborn.proofs.Common.{◌≡◌, ◌≤◌}
 use Rattle.urb_stubborn.proofs.LoneNodes.{tick_alone}
 use Rattle.urb_stubborn.proofs.TickProgress.{few_sent}
 use Rattle.urb_stubborn.proofs.resend.Resend.tick.Goals as goal

@@ -1,6 +1,5 @@
-use Rattle.std.proofs.Common.{IfSome, ◌≡◌, ◌+◌, vec_len, vec_capacity, ◌≤◌}
-use Rattle.urb_turn.specs.Counting.{events_in}
-use Rattle.urb_turn.specs.LastLoans.{AllBegin}
+use Rattle.urb_turn.proofs.Common.{AllBegin, IfSome, events_in, vec_capacity, vec_len, ◌+◌, ◌≡◌}
+use Rattle.urb_turn.proofs.Common.{◌≤◌}
 use Rattle.urb_turn.proofs.hub.Hub.new.Given as goal
 
 abbrev pub invariant-loop-i : goal.invariant-loop-i

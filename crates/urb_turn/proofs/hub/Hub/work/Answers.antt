@@ -1,9 +1,8 @@
-use Rattle.std.proofs.Common.{refl, rules, subst, sym, true, ◌∙◌, ◌≡◌}
+use Rattle.urb_turn.proofs.Common.{refl, rules, runs_at, subst, sym, true, ◌∙◌, ◌≡◌}
 use Rattle.urb_turn.proofs.LastLoans.{turn_since}
 use Rattle.urb_turn.proofs.TurnSteps.{stores_none, whole}
-use Rattle.urb_turn.proofs.hub.Hub.work.Goals as goal
-use Rattle.urb_turn.specs.Jobs.{runs_at}
 use Rattle.urb_turn.specs.WholeTurns.{Does}
+use Rattle.urb_turn.proofs.hub.Hub.work.Goals as goal
 
 -- nothing was asked of the store: both events came at once
 pub returns-then-is_stored-clause-turn : goal.returns-then-is_stored-clause-turn

@@ -1,8 +1,6 @@
-use Rattle.std.proofs.Common.{IsTrue, List, Option, subst, sym, true, ◌↔◌}
-use Rattle.urb_world.specs.Step.{Event}
+use Rattle.urb_turn.proofs.Common.{Event, IsPrefix, IsTrue, List, Option, events_until, subst, sym}
+use Rattle.urb_turn.proofs.Common.{true, ◌↔◌}
 use Rattle.urb_turn.proofs.SeenEvents.{after_nothing}
-use Rattle.urb_turn.specs.Loans.{events_until}
-use mathlib.Core.List.{IsPrefix}
 use Rattle.urb_turn.proofs.loans.Loans.is_after.Goals as goal
 
 -- no moment is the earliest one

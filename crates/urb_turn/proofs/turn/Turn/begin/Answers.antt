@@ -1,5 +1,4 @@
-use Rattle.std.proofs.Common.{rules}
-use Rattle.urb_turn.specs.Turns.{Begins}
+use Rattle.urb_turn.proofs.Common.{Begins, rules}
 use Rattle.urb_turn.proofs.EventCounts.{begins_few}
 use Rattle.urb_turn.proofs.TurnLoans.{is_loan}
 use Rattle.urb_turn.proofs.TurnSteps.{just_begun}

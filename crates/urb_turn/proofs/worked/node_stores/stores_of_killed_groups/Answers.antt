@@ -1,10 +1,7 @@
 -- What a stop leaves of a new node: nothing, and no pair.
-use Rattle.std.proofs.Common.{List, None, [], refl, ◌++◌, ◌∷◌, ◌≡◌}
-use Rattle.urb_world.specs.Step.{Event, run}
-use Rattle.urb_world.specs.internal.Examples.{pending}
+use Rattle.urb_turn.proofs.Common.{Event, LeavesAfter, List, None, [], four, holding, memory}
+use Rattle.urb_turn.proofs.Common.{pending, refl, run, ◌++◌, ◌∷◌, ◌≡◌}
 use Rattle.urb_turn.specs.KilledStores.{IsCutAt}
-use Rattle.urb_turn.specs.NodeStores.{LeavesAfter}
-use Rattle.urb_turn.specs.internal.TurnExamples.{four, holding, memory}
 use Rattle.urb_turn.proofs.worked.node_stores.stores_of_killed_groups.Goals as goal
 
 some-none : {A : Type 0} (x : A) (xs : List A) → x ∷ xs ≡ [] → ⊥

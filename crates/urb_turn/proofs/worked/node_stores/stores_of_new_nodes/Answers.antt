@@ -1,12 +1,7 @@
 -- The stores of new nodes: an empty one matches, and no other one does.
-use Rattle.std.proofs.Common.{List, None, [], false, inl, refl, true, ◌∷◌, ◌≡◌, ℕ}
-use Rattle.urb_world.specs.Step.{run}
-use Rattle.urb_group.specs.StoreContents.{LeavesOf}
-use Rattle.urb_world.specs.internal.Examples.{pending}
-use Rattle.urb_node.specs.Part.{opened_node}
-use Rattle.urb_stable.specs.MemoryStores.{empty_memory}
-use Rattle.urb_turn.specs.NodeStores.{IsStoreAfter}
-use Rattle.urb_turn.specs.internal.TurnExamples.{four, holding, memory}
+use Rattle.urb_turn.proofs.Common.{IsStoreAfter, LeavesOf, List, None, [], empty_memory, false}
+use Rattle.urb_turn.proofs.Common.{four, holding, inl, memory, opened_node, pending, refl, run}
+use Rattle.urb_turn.proofs.Common.{true, ℕ, ◌∷◌, ◌≡◌}
 use Rattle.urb_turn.proofs.worked.node_stores.stores_of_new_nodes.Goals as goal
 
 some-none : {A : Type 0} (x : A) (xs : List A) → x ∷ xs ≡ [] → ⊥

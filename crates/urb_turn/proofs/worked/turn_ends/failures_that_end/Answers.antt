@@ -1,19 +1,11 @@
 -- A new node holds no draft.
-use Rattle.std.proofs.Common.{Err, Ok, Result, [], refl, suc, zero, ℕ, ◌≡◌}
-use Rattle.urb_group.specs.GroupCalls.{GoesDown}
-use Rattle.urb_group.specs.GroupViews.{GroupView, Shows, view_of}
-use Rattle.urb_world.specs.Step.{Fail, step}
-use Rattle.urb_group.specs.declared.reply.Reply.TheVariants as reply
-use Rattle.urb_world.specs.internal.Examples.{limits}
-use Rattle.urb_names.specs.declared.refusal.Refusal.TheVariants as refusal
-use Rattle.urb_names.specs.declared.refusal.Refusal.{Refusal}
-use Rattle.urb_node.specs.NodeViews.{ShowsNode, no_view}
-use Rattle.urb_node.specs.Part.{opened_node}
-use Rattle.urb_node.specs.Replies.{Refused, WentDown}
-use Rattle.urb_show.specs.internal.ReaderExamples.{new_four}
-use Rattle.urb_stable.specs.declared.stable.StoreFault.TheVariants as fault
+use Rattle.urb_turn.proofs.Common.{Err, Fail, GoesDown, GroupView, Ok, Refusal, Refused, Result}
+use Rattle.urb_turn.proofs.Common.{Shows, ShowsNode, WentDown, [], four, limits, new_four, no_view}
+use Rattle.urb_turn.proofs.Common.{opened_node, refl, step, suc, view_of, zero, ℕ, ◌≡◌}
 use Rattle.urb_turn.specs.Stages.{fail_reply}
-use Rattle.urb_turn.specs.internal.TurnExamples.{four}
+use Rattle.urb_group.specs.declared.reply.Reply.TheVariants as reply
+use Rattle.urb_names.specs.declared.refusal.Refusal.TheVariants as refusal
+use Rattle.urb_stable.specs.declared.stable.StoreFault.TheVariants as fault
 use Rattle.urb_turn.proofs.worked.turn_ends.failures_that_end.Goals as goal
 
 new_node : (p : ℕ) → ShowsNode (limits 4 10) p no_view (opened_node p [])

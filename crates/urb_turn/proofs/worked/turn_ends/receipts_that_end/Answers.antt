@@ -1,18 +1,10 @@
 -- A new node holds no record.
-use Rattle.std.proofs.Common.{Err, Ok, Result, [], refl, suc, zero, ℕ, ◌≡◌}
-use Rattle.urb_group.specs.GroupCalls.{Commits}
-use Rattle.urb_group.specs.GroupViews.{GroupView, Shows, view_of}
-use Rattle.urb_world.specs.Step.{step}
-use Rattle.urb_group.specs.declared.reply.Reply.TheVariants as reply
-use Rattle.urb_world.specs.internal.Examples.{limits}
-use Rattle.urb_names.specs.declared.refusal.Refusal.{Refusal}
-use Rattle.urb_node.specs.NodeViews.{ShowsNode, no_view}
-use Rattle.urb_node.specs.Part.{opened_node}
-use Rattle.urb_node.specs.Replies.{Done, Refused, Stored}
-use Rattle.urb_show.specs.internal.ReaderExamples.{new_four}
-use Rattle.urb_stable.specs.PlacedRecords.{Placed}
+use Rattle.urb_turn.proofs.Common.{Commits, Done, Err, GroupView, Ok, Placed, Refusal, Refused}
+use Rattle.urb_turn.proofs.Common.{Result, Shows, ShowsNode, Stored, [], first_of_one, four, limits}
+use Rattle.urb_turn.proofs.Common.{new_four, no_view, nothing_released, opened_node, refl, step}
+use Rattle.urb_turn.proofs.Common.{suc, view_of, zero, ℕ, ◌≡◌}
 use Rattle.urb_turn.specs.Stages.{commit_reply}
-use Rattle.urb_turn.specs.internal.TurnExamples.{first_of_one, four, nothing_released}
+use Rattle.urb_group.specs.declared.reply.Reply.TheVariants as reply
 use Rattle.urb_turn.proofs.worked.turn_ends.receipts_that_end.Goals as goal
 
 new_node : (p : ℕ) → ShowsNode (limits 4 10) p no_view (opened_node p [])

@@ -1,18 +1,10 @@
 -- A ready node is not restarted.
-use Rattle.std.proofs.Common.{Err, List, Ok, Result, [], refl, suc, zero, ℕ, ◌≡◌}
-use Rattle.urb_group.specs.GroupCalls.{ComesUp}
-use Rattle.urb_group.specs.GroupViews.{GroupView, Shows, view_of}
-use Rattle.urb_world.specs.Step.{Restart, step}
-use Rattle.urb_group.specs.declared.reply.Reply.TheVariants as reply
-use Rattle.urb_world.specs.internal.Examples.{limits}
-use Rattle.urb_names.specs.declared.refusal.Refusal.{Refusal}
-use Rattle.urb_node.specs.NodeViews.{ShowsNode, no_view}
-use Rattle.urb_node.specs.Part.{opened_node}
-use Rattle.urb_node.specs.Replies.{Refused, Up}
-use Rattle.urb_show.specs.internal.ReaderExamples.{new_four}
-use Rattle.urb_stable.specs.Entries.{Entry}
+use Rattle.urb_turn.proofs.Common.{ComesUp, Entry, Err, GroupView, List, Ok, Refusal, Refused}
+use Rattle.urb_turn.proofs.Common.{Restart, Result, Shows, ShowsNode, Up, [], four, limits}
+use Rattle.urb_turn.proofs.Common.{new_four, no_view, opened_node, refl, step, suc, view_of, zero}
+use Rattle.urb_turn.proofs.Common.{ℕ, ◌≡◌}
 use Rattle.urb_turn.specs.Stages.{restart_reply}
-use Rattle.urb_turn.specs.internal.TurnExamples.{four}
+use Rattle.urb_group.specs.declared.reply.Reply.TheVariants as reply
 use Rattle.urb_turn.proofs.worked.turn_ends.restarts_that_end.Goals as goal
 
 new_node : (p : ℕ) → ShowsNode (limits 4 10) p no_view (opened_node p [])

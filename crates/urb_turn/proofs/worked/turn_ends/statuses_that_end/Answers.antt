@@ -1,12 +1,7 @@
 -- A new node has a status.
-use Rattle.std.proofs.Common.{None, Some, [], refl, suc, zero, ℕ, ◌≡◌}
-use Rattle.urb_group.specs.GroupViews.{Shows, view_of}
-use Rattle.urb_world.specs.internal.Examples.{limits}
-use Rattle.urb_node.specs.NodeViews.{ShowsNode, no_view}
-use Rattle.urb_node.specs.Part.{opened_node}
-use Rattle.urb_show.specs.Statuses.{status_of}
-use Rattle.urb_show.specs.internal.ReaderExamples.{new_four}
-use Rattle.urb_turn.specs.internal.TurnExamples.{four}
+use Rattle.urb_turn.proofs.Common.{None, Shows, ShowsNode, Some, [], four, limits, new_four}
+use Rattle.urb_turn.proofs.Common.{no_view, opened_node, refl, status_of, suc, view_of, zero, ℕ}
+use Rattle.urb_turn.proofs.Common.{◌≡◌}
 use Rattle.urb_turn.proofs.worked.turn_ends.statuses_that_end.Goals as goal
 
 new_node : (p : ℕ) → ShowsNode (limits 4 10) p no_view (opened_node p [])

@@ -1,21 +1,13 @@
 -- A restart asks for the state, which is ready in a new group.
-use Rattle.std.proofs.Common.{List, Option, Some, [], arith, length, refl, subst, suc, zero, ℕ, ◌∷◌, ◌≡◌}
-use Rattle.std.specs.declared.alloc.Global.{Global}
-use Rattle.urb_group.specs.GroupViews.{Shows, view_of}
-use Rattle.urb_world.specs.World.{World, stored}
+use Rattle.urb_turn.proofs.Common.{Entry, Global, List, Option, Shows, ShowsNode, Some, World, []}
+use Rattle.urb_turn.proofs.Common.{arith, four, length, limits, log, name, new_four, no_view}
+use Rattle.urb_turn.proofs.Common.{opened_node, refl, restart_stage, shows_none, subst, suc}
+use Rattle.urb_turn.proofs.Common.{view_of, zero, ℕ, ◌∷◌, ◌≡◌}
+use Rattle.urb_world.specs.World.{stored}
 use Rattle.urb_group.specs.declared.reply.Reply.{Reply}
-use Rattle.urb_group.specs.declared.state.State.TheVariants as state
 use Rattle.urb_group.specs.declared.state.State.{State}
-use Rattle.urb_world.specs.internal.Examples.{limits}
-use Rattle.urb_names.specs.Names.{name}
-use Rattle.urb_node.specs.NodeViews.{ShowsNode, no_view}
-use Rattle.urb_node.specs.Part.{opened_node}
-use Rattle.urb_show.specs.internal.ReaderExamples.{new_four, shows_none}
-use Rattle.urb_stable.specs.DeliveredLogs.{log}
-use Rattle.urb_stable.specs.Entries.{Entry}
-use Rattle.urb_turn.specs.Stages.{restart_stage}
+use Rattle.urb_group.specs.declared.state.State.TheVariants as state
 use Rattle.urb_turn.specs.declared.turn_stages.Stage.TheVariants as stage
-use Rattle.urb_turn.specs.internal.TurnExamples.{four}
 use Rattle.urb_turn.proofs.worked.turns.questions_that_begin.Goals as goal
 
 new_node : (p : ℕ) → ShowsNode (limits 4 10) p no_view (opened_node p [])

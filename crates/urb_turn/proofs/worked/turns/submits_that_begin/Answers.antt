@@ -1,27 +1,12 @@
 -- A submit in a new group is drafted.
-use Rattle.std.proofs.Common.{Err, List, Ok, Result, [], refl, suc, zero, ℕ, ◌≡◌}
-use Rattle.std.specs.declared.alloc.Global.{Global}
-use Rattle.urb_group.specs.GroupCalls.{Takes}
-use Rattle.urb_group.specs.GroupViews.{Shows, view_of}
-use Rattle.urb_world.specs.Step.{Submit, step}
+use Rattle.urb_turn.proofs.Common.{Answer, Carried, Drafted, Err, Global, Label, List, Ok, Refusal}
+use Rattle.urb_turn.proofs.Common.{Result, Same, Shows, ShowsNode, Submit, Taken, Takes, []}
+use Rattle.urb_turn.proofs.Common.{count_of, four, limits, name, new_four, no_view, opened_node}
+use Rattle.urb_turn.proofs.Common.{refl, step, suc, taken_stage, view_of, zero, ℕ, ◌≡◌}
 use Rattle.urb_group.specs.declared.reply.Reply.TheVariants as reply
 use Rattle.urb_group.specs.declared.taken.Taken.TheVariants as taken
-use Rattle.urb_group.specs.declared.taken.Taken.{Taken}
-use Rattle.urb_world.specs.internal.Examples.{limits}
-use Rattle.urb_names.specs.CarriedPackets.{Carried}
-use Rattle.urb_names.specs.LabelsAndContents.{Label}
-use Rattle.urb_names.specs.Names.{name}
-use Rattle.urb_names.specs.declared.refusal.Refusal.{Refusal}
-use Rattle.urb_node.specs.NodeViews.{ShowsNode, no_view}
-use Rattle.urb_node.specs.Part.{opened_node}
-use Rattle.urb_node.specs.Replies.{Drafted, Same}
 use Rattle.urb_node.specs.declared.answer.Answer.TheVariants as answer
-use Rattle.urb_node.specs.declared.answer.Answer.{Answer}
-use Rattle.urb_show.specs.internal.ReaderExamples.{new_four}
-use Rattle.urb_turn.specs.Counting.{count_of}
-use Rattle.urb_turn.specs.Stages.{taken_stage}
 use Rattle.urb_turn.specs.declared.turn_stages.Stage.TheVariants as stage
-use Rattle.urb_turn.specs.internal.TurnExamples.{four}
 use Rattle.urb_turn.proofs.worked.turns.submits_that_begin.Goals as goal
 
 new_node : (p : ℕ) → ShowsNode (limits 4 10) p no_view (opened_node p [])

@@ -1,24 +1,15 @@
 -- A tick and a crash of a new node are done.
-use Rattle.std.proofs.Common.{Err, List, Ok, Result, [], arith, length, refl, subst, suc, sym, zero, ℕ, ◌∷◌, ◌≡◌}
-use Rattle.urb_group.specs.GroupCalls.{GoesDown, IsRefused, Ticks}
-use Rattle.urb_group.specs.GroupViews.{Shows, view_of}
-use Rattle.urb_world.specs.Step.{Crash, Tick, step}
-use Rattle.urb_world.specs.World.{World, stored}
+use Rattle.urb_turn.proofs.Common.{Carried, Crash, Entry, Err, GoesDown, IsRefused, List, Ok}
+use Rattle.urb_turn.proofs.Common.{Refusal, Refused, Result, Shows, ShowsNode, Tick, WentDown}
+use Rattle.urb_turn.proofs.Common.{World, [], arith, crash_stage, four, length, limits, log, name}
+use Rattle.urb_turn.proofs.Common.{new_four, no_view, opened_node, refl, shows_none, step, subst}
+use Rattle.urb_turn.proofs.Common.{suc, sym, tick_stage, view_of, zero, ℕ, ◌∷◌, ◌≡◌}
+use Rattle.urb_group.specs.GroupCalls.{Ticks}
+use Rattle.urb_world.specs.World.{stored}
+use Rattle.urb_node.specs.Replies.{Sent}
 use Rattle.urb_group.specs.declared.reply.Reply.TheVariants as reply
-use Rattle.urb_world.specs.internal.Examples.{limits}
-use Rattle.urb_names.specs.CarriedPackets.{Carried}
-use Rattle.urb_names.specs.Names.{name}
 use Rattle.urb_names.specs.declared.refusal.Refusal.TheVariants as refusal
-use Rattle.urb_names.specs.declared.refusal.Refusal.{Refusal}
-use Rattle.urb_node.specs.NodeViews.{ShowsNode, no_view}
-use Rattle.urb_node.specs.Part.{opened_node}
-use Rattle.urb_node.specs.Replies.{Refused, Sent, WentDown}
-use Rattle.urb_show.specs.internal.ReaderExamples.{new_four, shows_none}
-use Rattle.urb_stable.specs.DeliveredLogs.{log}
-use Rattle.urb_stable.specs.Entries.{Entry}
-use Rattle.urb_turn.specs.Stages.{crash_stage, tick_stage}
 use Rattle.urb_turn.specs.declared.turn_stages.Stage.TheVariants as stage
-use Rattle.urb_turn.specs.internal.TurnExamples.{four}
 use Rattle.urb_turn.proofs.worked.turns.ticks_and_crashes_that_begin.Goals as goal
 
 new_node : (p : ℕ) → ShowsNode (limits 4 10) p no_view (opened_node p [])

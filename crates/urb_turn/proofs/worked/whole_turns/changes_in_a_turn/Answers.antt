@@ -1,19 +1,10 @@
 -- What a new node, and a group that shows no world, do in a turn.
-use Rattle.std.proofs.Common.{List, None, [], arith, length, refl, suc, zero, ℕ, ◌∷◌, ◌≡◌}
-use Rattle.urb_group.specs.GroupViews.{Shows, view_of}
-use Rattle.urb_world.specs.Step.{step}
-use Rattle.urb_world.specs.World.{World, stored}
-use Rattle.urb_world.specs.internal.Examples.{limits}
-use Rattle.urb_names.specs.Names.{name}
-use Rattle.urb_names.specs.declared.refusal.Refusal.{Refusal}
-use Rattle.urb_node.specs.NodeViews.{ShowsNode, no_view}
-use Rattle.urb_node.specs.Part.{Down, Ready, opened_node}
-use Rattle.urb_node.specs.Replies.{Refused, Up, WentDown}
-use Rattle.urb_show.specs.internal.ReaderExamples.{new_four, shows_none}
-use Rattle.urb_stable.specs.DeliveredLogs.{log}
-use Rattle.urb_stable.specs.Entries.{Entry}
+use Rattle.urb_turn.proofs.Common.{Down, Entry, List, None, Ready, Refusal, Refused, Shows}
+use Rattle.urb_turn.proofs.Common.{ShowsNode, Up, WentDown, World, [], arith, four, length, limits}
+use Rattle.urb_turn.proofs.Common.{log, name, new_four, no_view, opened_node, refl, shows_none}
+use Rattle.urb_turn.proofs.Common.{step, suc, view_of, zero, ℕ, ◌∷◌, ◌≡◌}
+use Rattle.urb_world.specs.World.{stored}
 use Rattle.urb_stable.specs.declared.stable.StoreFault.TheVariants as fault
-use Rattle.urb_turn.specs.internal.TurnExamples.{four}
 use Rattle.urb_turn.proofs.worked.whole_turns.changes_in_a_turn.Goals as goal
 
 new_node : (p : ℕ) → ShowsNode (limits 4 10) p no_view (opened_node p [])

@@ -1,28 +1,16 @@
 -- Jobs that run at a worker, and jobs that it refuses.
-use Rattle.std.proofs.Common.{Err, List, None, Ok, [], arith, false, inl, inr, length, refl, suc, true, zero, ℕ, ◌-◌, ◌∷◌, ◌≡◌}
-use Rattle.urb_world.proofs.steps.Runs.{new-kept}
-use Rattle.urb_group.specs.GroupViews.{IsSound, Shows, view_of}
-use Rattle.urb_world.specs.Step.{Commit, Event, Submit}
-use Rattle.urb_world.specs.World.{World, stored}
+use Rattle.urb_turn.proofs.Common.{Commit, Entry, Err, Event, HouseView, IsSound, IsTurnAt, Keeps}
+use Rattle.urb_turn.proofs.Common.{List, None, Ok, Shows, ShowsNode, StoreFault, Submit, World, []}
+use Rattle.urb_turn.proofs.Common.{arith, drafts_in_none, empty_memory, ended, false, first_of_one}
+use Rattle.urb_turn.proofs.Common.{four, holding, house_of, house_of_four, house_of_none, inl, inr}
+use Rattle.urb_turn.proofs.Common.{length, limits, log, memory, name, new-kept, new_four, no_view}
+use Rattle.urb_turn.proofs.Common.{nothing_released, opened_node, pending, refl, shows_none, suc}
+use Rattle.urb_turn.proofs.Common.{true, view_of, zero, ℕ, ◌-◌, ◌∷◌, ◌≡◌}
+use Rattle.urb_world.specs.World.{stored}
 use Rattle.urb_group.specs.declared.reply.Reply.TheVariants as reply
 use Rattle.urb_group.specs.declared.taken.Taken.TheVariants as taken
-use Rattle.urb_world.specs.internal.Examples.{limits, pending}
-use Rattle.urb_names.specs.Names.{name}
-use Rattle.urb_node.specs.NodeViews.{ShowsNode, no_view}
-use Rattle.urb_node.specs.Part.{opened_node}
-use Rattle.urb_show.specs.Houses.{HouseView}
-use Rattle.urb_show.specs.internal.ReaderExamples.{new_four, shows_none}
-use Rattle.urb_stable.specs.DeliveredLogs.{log}
-use Rattle.urb_stable.specs.Entries.{Entry}
-use Rattle.urb_stable.specs.KeptDrafts.{Keeps}
-use Rattle.urb_stable.specs.MemoryStores.{empty_memory}
-use Rattle.urb_stable.specs.declared.stable.StoreFault.{StoreFault}
-use Rattle.urb_turn.specs.WholeTurns.{IsTurnAt}
 use Rattle.urb_turn.specs.declared.job.Job.TheVariants as job
 use Rattle.urb_turn.specs.declared.turn_stages.Stage.TheVariants as stage
-use Rattle.urb_turn.specs.internal.TurnExamples.{drafts_in_none, ended, first_of_one, four}
-use Rattle.urb_turn.specs.internal.TurnExamples.{holding, house_of, house_of_four, house_of_none}
-use Rattle.urb_turn.specs.internal.TurnExamples.{memory, nothing_released}
 use Rattle.urb_turn.proofs.worked.whole_turns.jobs_that_workers_do.Goals as goal
 
 new_node : (p : ℕ) → ShowsNode (limits 4 10) p no_view (opened_node p [])

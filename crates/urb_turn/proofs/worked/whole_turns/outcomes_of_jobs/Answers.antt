@@ -1,25 +1,14 @@
 -- What comes of a job that ran, and of one that did not.
-use Rattle.std.proofs.Common.{None, Some, [], if◌then◌else◌, refl, subst, suc, zero, ℕ, ◌≡◌}
-use Rattle.urb_world.proofs.steps.Runs.{new-kept}
-use Rattle.urb_group.specs.GroupCalls.{Answers}
-use Rattle.urb_group.specs.GroupViews.{IsSound, Shows, view_of}
-use Rattle.urb_group.specs.ReportedStates.{state_of}
-use Rattle.urb_world.specs.Step.{run}
+use Rattle.urb_turn.proofs.Common.{Answers, CameOf, IsLedTo, IsSound, Limits, None, NothingNew}
+use Rattle.urb_turn.proofs.Common.{Shows, ShowsNode, Some, [], four, house_of_four, if◌then◌else◌}
+use Rattle.urb_turn.proofs.Common.{is_node, limits, new-kept, new_four, no_view, opened_node, refl}
+use Rattle.urb_turn.proofs.Common.{run, state_of, subst, suc, view_of, zero, ℕ, ◌≡◌}
+use Rattle.urb_node.specs.Part.{State}
 use Rattle.urb_group.specs.declared.reply.Reply.TheVariants as reply
 use Rattle.urb_group.specs.declared.state.State.TheVariants as state
-use Rattle.urb_world.specs.internal.Examples.{limits}
-use Rattle.urb_names.specs.LabelsAndContents.{Limits}
-use Rattle.urb_names.specs.Nodes.{is_node}
 use Rattle.urb_names.specs.declared.refusal.Refusal.TheVariants as refusal
-use Rattle.urb_node.specs.NodeViews.{ShowsNode, no_view}
-use Rattle.urb_node.specs.Part.{State, opened_node}
-use Rattle.urb_show.specs.Pasts.{IsLedTo}
-use Rattle.urb_show.specs.internal.ReaderExamples.{new_four}
-use Rattle.urb_turn.specs.Settlings.{NothingNew}
-use Rattle.urb_turn.specs.Turns.{CameOf}
 use Rattle.urb_turn.specs.declared.job.Job.TheVariants as job
 use Rattle.urb_turn.specs.declared.turn_stages.Stage.TheVariants as stage
-use Rattle.urb_turn.specs.internal.TurnExamples.{four, house_of_four}
 use Rattle.urb_turn.proofs.worked.whole_turns.outcomes_of_jobs.Goals as goal
 
 new_node : (p : ℕ) → ShowsNode (limits 4 10) p no_view (opened_node p [])

@@ -1,51 +1,32 @@
 -- Turns in a new group whose parts do not fit, and one whose parts fit.
-use Rattle.std.proofs.Common.{Bool, Err, List, None, Ok, Result, Some, [], arith, false, if◌then◌else◌, inl, inr, length, refl, subst, suc, sym, true, zero, ℕ, ◌-◌, ◌==◌, eqb-true, ◌∷◌, ◌≡◌}
-use Rattle.std.proofs.lemmas.Bool.{cond-false}
-use Rattle.urb_world.proofs.steps.Runs.{new-kept}
-use Rattle.urb_group.specs.GroupCalls.{GoesDown, IsRefused}
-use Rattle.urb_group.specs.GroupViews.{GroupView, IsSound, Shows, view_of}
-use Rattle.urb_world.specs.RecoveryPlans.{after}
-use Rattle.urb_group.specs.ReportedStates.{state_of}
-use Rattle.urb_world.specs.Step.{Commit, Crash, Event, Restart, Submit, run, step}
-use Rattle.urb_world.specs.World.{World, stored}
+use Rattle.urb_turn.proofs.Common.{AreElsewhere, Bool, Carried, Commit, Crash, Down, Ends, Entry}
+use Rattle.urb_turn.proofs.Common.{Err, Event, FinishedView, GoesDown, GroupView, HasRested}
+use Rattle.urb_turn.proofs.Common.{HouseView, IsLedTo, IsRefused, IsSound, IsStoreAfter, IsTurn}
+use Rattle.urb_turn.proofs.Common.{IsTurnAt, Keeps, Label, LeavesAfter, Limits, List, Node, None}
+use Rattle.urb_turn.proofs.Common.{NothingNew, Ok, Ready, Refusal, Refused, Restart, Result, Shows}
+use Rattle.urb_turn.proofs.Common.{ShowsNode, Some, Stage, StoreFault, Stores, Submit, WentDown}
+use Rattle.urb_turn.proofs.Common.{World, [], after, arith, cond-false, crash_stage, drafts_in_none}
+use Rattle.urb_turn.proofs.Common.{empty_memory, ended, eqb-true, false, first_of_one, four}
+use Rattle.urb_turn.proofs.Common.{holding, house_of, house_of_four, house_of_none, if◌then◌else◌}
+use Rattle.urb_turn.proofs.Common.{inl, inr, is_node, length, limits, log, memory, name, new-kept}
+use Rattle.urb_turn.proofs.Common.{new_four, new_status, no_view, nothing_released, opened_node}
+use Rattle.urb_turn.proofs.Common.{pending, refl, run, shows_none, state_of, status_of, step, subst}
+use Rattle.urb_turn.proofs.Common.{suc, sym, true, view_of, zero, ℕ, ◌-◌, ◌==◌, ◌∷◌, ◌≡◌}
+use Rattle.urb_world.specs.World.{stored}
+use Rattle.urb_names.specs.LabelsAndContents.{Content}
+use Rattle.urb_names.specs.Pairs.{own}
+use Rattle.urb_node.specs.Part.{State}
+use Rattle.urb_node.specs.Steps.{restarts}
+use Rattle.urb_show.specs.Statuses.{TellsStatus}
+use Rattle.urb_stable.specs.MemoryStores.{Memory}
+use Rattle.urb_stable.specs.Records.{pend}
+use Rattle.urb_turn.specs.internal.TurnExamples.{around_a_restart, in_doubt}
 use Rattle.urb_group.specs.declared.reply.Reply.TheVariants as reply
 use Rattle.urb_group.specs.declared.state.State.TheVariants as state
 use Rattle.urb_group.specs.declared.taken.Taken.TheVariants as taken
-use Rattle.urb_world.specs.internal.Examples.{limits, pending}
-use Rattle.urb_names.specs.CarriedPackets.{Carried}
-use Rattle.urb_names.specs.LabelsAndContents.{Content, Limits, Label}
-use Rattle.urb_names.specs.Names.{name}
-use Rattle.urb_names.specs.Nodes.{is_node}
-use Rattle.urb_names.specs.Pairs.{own}
 use Rattle.urb_names.specs.declared.refusal.Refusal.TheVariants as refusal
-use Rattle.urb_names.specs.declared.refusal.Refusal.{Refusal}
-use Rattle.urb_node.specs.NodeViews.{ShowsNode, no_view}
-use Rattle.urb_node.specs.Part.{Down, Node, Ready, State, opened_node}
-use Rattle.urb_node.specs.Replies.{Refused, WentDown}
-use Rattle.urb_node.specs.Steps.{restarts}
-use Rattle.urb_show.specs.Houses.{HouseView}
-use Rattle.urb_show.specs.Pasts.{IsLedTo}
-use Rattle.urb_show.specs.Statuses.{TellsStatus, status_of}
-use Rattle.urb_show.specs.internal.ReaderExamples.{new_four, shows_none}
-use Rattle.urb_stable.specs.DeliveredLogs.{log}
-use Rattle.urb_stable.specs.Entries.{Entry}
-use Rattle.urb_stable.specs.KeptDrafts.{Keeps}
-use Rattle.urb_stable.specs.MemoryStores.{Memory, empty_memory}
-use Rattle.urb_stable.specs.Records.{pend}
-use Rattle.urb_stable.specs.declared.stable.StoreFault.{StoreFault}
-use Rattle.urb_turn.specs.NodeStores.{AreElsewhere, HasRested, IsStoreAfter, LeavesAfter}
-use Rattle.urb_turn.specs.Settlings.{NothingNew}
-use Rattle.urb_turn.specs.Stages.{crash_stage}
-use Rattle.urb_turn.specs.Turns.{Ends, Stores}
-use Rattle.urb_turn.specs.Views.{FinishedView}
-use Rattle.urb_turn.specs.WholeTurns.{IsTurn, IsTurnAt}
 use Rattle.urb_turn.specs.declared.job.Job.TheVariants as job
 use Rattle.urb_turn.specs.declared.turn_stages.Stage.TheVariants as stage
-use Rattle.urb_turn.specs.declared.turn_stages.Stage.{Stage}
-use Rattle.urb_turn.specs.internal.TurnExamples.{around_a_restart, drafts_in_none, ended}
-use Rattle.urb_turn.specs.internal.TurnExamples.{first_of_one, four, holding, house_of}
-use Rattle.urb_turn.specs.internal.TurnExamples.{house_of_four, house_of_none, in_doubt, memory}
-use Rattle.urb_turn.specs.internal.TurnExamples.{new_status, nothing_released}
 use Rattle.urb_turn.proofs.worked.whole_turns.parts_of_a_turn.Goals as goal
 
 new_node : (p : ℕ) → ShowsNode (limits 4 10) p no_view (opened_node p [])

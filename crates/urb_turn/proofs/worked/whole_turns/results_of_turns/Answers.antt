@@ -1,29 +1,16 @@
 -- What comes of a restart and of a status in a new group.
-use Rattle.std.proofs.Common.{None, Option, Some, [], ap, if◌then◌else◌, refl, subst, suc, sym, zero, ℕ, ◌≡◌}
-use Rattle.urb_world.proofs.steps.Runs.{new-kept}
-use Rattle.urb_group.specs.GroupCalls.{Answers}
-use Rattle.urb_group.specs.GroupViews.{IsSound, Shows, view_of}
-use Rattle.urb_group.specs.ReportedStates.{state_of}
-use Rattle.urb_world.specs.Step.{run}
+use Rattle.urb_turn.proofs.Common.{Answers, CameOf, Ends, Goes, IsLedTo, IsSound, Limits, None}
+use Rattle.urb_turn.proofs.Common.{NothingNew, Option, Shows, ShowsNode, Some, Status, [], ap, four}
+use Rattle.urb_turn.proofs.Common.{house_of_four, if◌then◌else◌, is_node, limits, log, new-kept}
+use Rattle.urb_turn.proofs.Common.{new_four, new_status, no_view, opened_node, refl, run, state_of}
+use Rattle.urb_turn.proofs.Common.{status_of, subst, suc, sym, view_of, zero, ℕ, ◌≡◌}
+use Rattle.urb_group.specs.declared.state.State.{State as Reported}
+use Rattle.urb_node.specs.Part.{State}
 use Rattle.urb_group.specs.declared.reply.Reply.TheVariants as reply
 use Rattle.urb_group.specs.declared.state.State.TheVariants as state
-use Rattle.urb_group.specs.declared.state.State.{State as Reported}
-use Rattle.urb_world.specs.internal.Examples.{limits}
-use Rattle.urb_names.specs.LabelsAndContents.{Limits}
-use Rattle.urb_names.specs.Nodes.{is_node}
 use Rattle.urb_names.specs.declared.refusal.Refusal.TheVariants as refusal
-use Rattle.urb_node.specs.NodeViews.{ShowsNode, no_view}
-use Rattle.urb_node.specs.Part.{State, opened_node}
-use Rattle.urb_show.specs.Pasts.{IsLedTo}
-use Rattle.urb_show.specs.Statuses.{status_of}
-use Rattle.urb_show.specs.declared.status.Status.{Status}
-use Rattle.urb_show.specs.internal.ReaderExamples.{new_four}
-use Rattle.urb_stable.specs.DeliveredLogs.{log}
-use Rattle.urb_turn.specs.Settlings.{NothingNew}
-use Rattle.urb_turn.specs.Turns.{CameOf, Ends, Goes}
 use Rattle.urb_turn.specs.declared.job.Job.TheVariants as job
 use Rattle.urb_turn.specs.declared.turn_stages.Stage.TheVariants as stage
-use Rattle.urb_turn.specs.internal.TurnExamples.{four, house_of_four, new_status}
 use Rattle.urb_turn.proofs.worked.whole_turns.results_of_turns.Goals as goal
 
 new_node : (p : ℕ) → ShowsNode (limits 4 10) p no_view (opened_node p [])

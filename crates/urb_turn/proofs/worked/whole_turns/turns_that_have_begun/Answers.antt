@@ -1,25 +1,13 @@
 -- A status and a crash that have begun.
-use Rattle.std.proofs.Common.{Bool, Err, Ok, Result, [], false, if◌then◌else◌, refl, subst, suc, sym, true, zero, ℕ, ◌≡◌}
-use Rattle.urb_world.proofs.steps.Runs.{new-kept}
-use Rattle.urb_group.specs.GroupCalls.{GoesDown, IsRefused}
-use Rattle.urb_group.specs.GroupViews.{GroupView, IsSound, Shows, view_of}
-use Rattle.urb_world.specs.Step.{Crash, run, step, world_after}
-use Rattle.urb_world.specs.World.{World}
+use Rattle.urb_turn.proofs.Common.{Bool, Crash, Err, Goes, GoesDown, GroupView, IsLedTo, IsRefused}
+use Rattle.urb_turn.proofs.Common.{IsSound, Node, Ok, Refusal, Refused, Result, Shows, ShowsNode}
+use Rattle.urb_turn.proofs.Common.{WentDown, World, [], crash_stage, false, four, goes_down}
+use Rattle.urb_turn.proofs.Common.{house_of_four, if◌then◌else◌, is_down, is_node, limits, new-kept}
+use Rattle.urb_turn.proofs.Common.{new_four, no_view, opened_node, refl, refuses, run, step, subst}
+use Rattle.urb_turn.proofs.Common.{suc, sym, true, view_of, world_after, zero, ℕ, ◌≡◌}
 use Rattle.urb_group.specs.declared.reply.Reply.TheVariants as reply
-use Rattle.urb_world.specs.internal.Examples.{limits}
-use Rattle.urb_names.specs.Nodes.{is_node}
 use Rattle.urb_names.specs.declared.refusal.Refusal.TheVariants as refusal
-use Rattle.urb_names.specs.declared.refusal.Refusal.{Refusal}
-use Rattle.urb_node.specs.NodeViews.{ShowsNode, no_view}
-use Rattle.urb_node.specs.Part.{Node, opened_node}
-use Rattle.urb_node.specs.Replies.{Refused, WentDown}
-use Rattle.urb_node.specs.Steps.{goes_down, is_down, refuses}
-use Rattle.urb_show.specs.Pasts.{IsLedTo}
-use Rattle.urb_show.specs.internal.ReaderExamples.{new_four}
-use Rattle.urb_turn.specs.Stages.{crash_stage}
-use Rattle.urb_turn.specs.Turns.{Goes}
 use Rattle.urb_turn.specs.declared.turn_stages.Stage.TheVariants as stage
-use Rattle.urb_turn.specs.internal.TurnExamples.{four, house_of_four}
 use Rattle.urb_turn.proofs.worked.whole_turns.turns_that_have_begun.Goals as goal
 
 new_node : (p : ℕ) → ShowsNode (limits 4 10) p no_view (opened_node p [])

@@ -1,6 +1,4 @@
-use Rattle.std.proofs.Common.{sym, ap, ◌∙◌}
-use Rattle.urb_names.specs.Names.{has_name}
-use Rattle.urb_window.specs.Marks.{MarkSet}
+use Rattle.urb_window.proofs.Common.{MarkSet, ap, has_name, sym, ◌∙◌}
 use Rattle.urb_window.proofs.NameSearches.{has_value}
 use Rattle.urb_window.proofs.marks.Marks.is_roomy.Goals as goal
 

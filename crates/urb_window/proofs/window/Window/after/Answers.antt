@@ -1,11 +1,8 @@
-use Rattle.std.proofs.Common.{◌≡◌, ◌<◌, ◌≤◌, ◌+◌, ◌^◌, rules, arith, ap, sym, ◌∙◌, suc, nat_lt}
-use Rattle.std.proofs.Common.{length, get_or, find, Some, option_map}
-use Rattle.std.specs.Prelude.{slice_get}
-use Rattle.std.specs.List.{prefix_len}
-use Rattle.std.proofs.lemmas.Option.{slice_get-get_or, slice_get_past}
-use Rattle.urb_window.specs.Row.{pairs_of}
-use Rattle.urb_window.proofs.NumberedValues.{above_over, after_behind, after_low, after_none, after_place}
-use Rattle.urb_window.proofs.NumberedValues.{pairs_over}
+use Rattle.urb_window.proofs.Common.{Some, ap, arith, find, get_or, length, nat_lt, option_map}
+use Rattle.urb_window.proofs.Common.{pairs_of, prefix_len, rules, slice_get, slice_get-get_or}
+use Rattle.urb_window.proofs.Common.{slice_get_past, suc, sym, ◌+◌, ◌<◌, ◌^◌, ◌∙◌, ◌≡◌, ◌≤◌}
+use Rattle.urb_window.proofs.NumberedValues.{above_over, after_behind, after_low, after_none}
+use Rattle.urb_window.proofs.NumberedValues.{after_place, pairs_over}
 use Rattle.urb_window.proofs.window.Window.after.Goals as goal
 
 pub place_of-requires : goal.place_of-requires

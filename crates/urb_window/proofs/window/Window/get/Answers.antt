@@ -1,8 +1,6 @@
-use Rattle.std.proofs.Common.{◌≡◌, ◌<◌, ◌≤◌, ◌+◌, ◌-◌, rules, ap, sym, ◌∙◌, true, false}
-use Rattle.std.proofs.Common.{nat_lt, length, get_or, Some}
-use Rattle.std.specs.List.{prefix_len}
-use Rattle.urb_window.specs.Row.{pairs_of}
-use Rattle.urb_window.specs.internal.RowOperations.{holds_at, numbered}
+use Rattle.urb_window.proofs.Common.{Some, ap, false, get_or, holds_at, length, nat_lt, numbered}
+use Rattle.urb_window.proofs.Common.{pairs_of, prefix_len, rules, sym, true, ◌+◌, ◌-◌, ◌<◌, ◌∙◌}
+use Rattle.urb_window.proofs.Common.{◌≡◌, ◌≤◌}
 use Rattle.urb_window.proofs.NumberedValues.{above_over, numbered_behind, numbered_low}
 use Rattle.urb_window.proofs.BinarySearches.{holds_within, numbered_absent, numbered_found}
 use Rattle.urb_window.proofs.window.Window.get.Goals as goal

@@ -1,10 +1,8 @@
-use Rattle.std.proofs.Common.{◌≡◌, ◌<◌, ◌≤◌, ◌+◌, ◌^◌, ◌++◌, rules, refl, arith, ap, sym, ◌∙◌}
-use Rattle.std.proofs.Common.{subst, length, Some, None, vec_len, vec_capacity}
-use Rattle.std.specs.VecDeque.{deque_len, deque_capacity}
-use Rattle.urb_names.specs.RisingLists.{placed}
-use Rattle.urb_window.specs.Row.{counted_from, pairs_of}
-use Rattle.urb_window.specs.internal.RowOperations.{AreOver, number_lt, numbered}
-use Rattle.urb_window.specs.internal.RowInvariant.{HasRoom}
+use Rattle.urb_window.proofs.Common.{AreOver, HasRoom, None, Some, ap, arith, counted_from}
+use Rattle.urb_window.proofs.Common.{deque_capacity, deque_len, length, number_lt, numbered}
+use Rattle.urb_window.proofs.Common.{pairs_of, placed, refl, rules, subst, sym, ◌++◌, ◌+◌, ◌<◌, ◌^◌}
+use Rattle.urb_window.proofs.Common.{◌∙◌, ◌≡◌, ◌≤◌}
+use Rattle.std.proofs.Common.{vec_capacity, vec_len}
 use Rattle.urb_window.proofs.NumberedValues.{above_over, numbered_behind}
 use Rattle.urb_window.proofs.ElementPlaces.{absent_low, over_placed, placed_above}
 use Rattle.urb_window.proofs.PreservedRows.{roomy_bigger, roomy_unreserved}

@@ -1,8 +1,6 @@
-use Rattle.std.proofs.Common.{◌≡◌, ◌<◌, ◌≤◌, ◌+◌, ◌-◌, rules, arith, ap, sym, ◌∙◌, length, get_or}
-use Rattle.std.proofs.Common.{Some}
-use Rattle.std.specs.Prelude.{slice_get}
-use Rattle.std.proofs.lemmas.Option.{slice_get-get_or, slice_get_past}
-use Rattle.urb_window.specs.Row.{pairs_of}
+use Rattle.urb_window.proofs.Common.{Some, ap, arith, get_or, length, pairs_of, rules, slice_get}
+use Rattle.urb_window.proofs.Common.{slice_get-get_or, slice_get_past, sym, ◌+◌, ◌-◌, ◌<◌, ◌∙◌, ◌≡◌}
+use Rattle.urb_window.proofs.Common.{◌≤◌}
 use Rattle.urb_window.proofs.NumberedValues.{pair_behind, pair_low}
 use Rattle.urb_window.proofs.window.Window.pair.Goals as goal
 

@@ -1,10 +1,7 @@
-use Rattle.std.proofs.Common.{◌≡◌, ◌<◌, ◌≤◌, ◌+◌, ◌-◌, ◌^◌, ◌++◌, nat_lt, rules, refl, arith}
-use Rattle.std.proofs.Common.{ap, sym, ◌∙◌, subst, length, get_or, slice_set, Some, true}
-use Rattle.std.specs.Prelude.{IsSome}
-use Rattle.std.specs.List.{prefix_len}
-use Rattle.std.proofs.lemmas.List.{length-set}
-use Rattle.urb_window.specs.Row.{counted_from, pairs_of}
-use Rattle.urb_window.specs.internal.RowOperations.{AreOver, holds_at, numbered, renumbered}
+use Rattle.urb_window.proofs.Common.{AreOver, IsSome, Some, ap, arith, counted_from, get_or}
+use Rattle.urb_window.proofs.Common.{holds_at, length, length-set, nat_lt, numbered, pairs_of}
+use Rattle.urb_window.proofs.Common.{prefix_len, refl, renumbered, rules, slice_set, subst, sym}
+use Rattle.urb_window.proofs.Common.{true, ◌++◌, ◌+◌, ◌-◌, ◌<◌, ◌^◌, ◌∙◌, ◌≡◌, ◌≤◌}
 use Rattle.urb_window.proofs.NumberedValues.{above_over, numbered_behind, numbered_low}
 use Rattle.urb_window.proofs.BinarySearches.{holds_within}
 use Rattle.urb_window.proofs.ReplacedValues.{IsFound, finds, over_renumbered, renumbered_behind}

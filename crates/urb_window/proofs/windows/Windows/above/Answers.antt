@@ -1,6 +1,4 @@
-use Rattle.std.proofs.Common.{◌≡◌, rules, ap, sym, ◌∙◌, length}
-use Rattle.urb_window.specs.Entries.{above_of}
-use Rattle.urb_window.specs.internal.SenderRows.{row_at, no_row}
+use Rattle.urb_window.proofs.Common.{above_of, ap, length, no_row, row_at, rules, sym, ◌∙◌, ◌≡◌}
 use Rattle.urb_window.proofs.EntryParts.{above_is}
 use Rattle.urb_window.proofs.windows.Windows.above.Goals as goal
 

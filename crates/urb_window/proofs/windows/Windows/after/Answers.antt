@@ -1,6 +1,4 @@
-use Rattle.std.proofs.Common.{ap, ◌∙◌, find, option_map}
-use Rattle.urb_names.specs.Names.{name_lt}
-use Rattle.urb_window.specs.RowEntries.{entries_from}
+use Rattle.urb_window.proofs.Common.{ap, entries_from, find, name_lt, option_map, ◌∙◌}
 use Rattle.urb_window.proofs.windows.Windows.after.Goals as goal
 
 pub returns : goal.returns

@@ -1,6 +1,4 @@
-use Rattle.std.proofs.Common.{ap, length, subst, sym, ◌∙◌, ◌≤◌}
-use Rattle.urb_names.specs.declared.limits.TheConstants.{MAX_SENDERS}
-use Rattle.urb_window.specs.RowEntries.{entries_from}
+use Rattle.urb_window.proofs.Common.{MAX_SENDERS, ap, entries_from, length, subst, sym, ◌∙◌, ◌≤◌}
 use Rattle.urb_window.proofs.windows.Windows.count.Goals as goal
 
 pub count_of-requires : goal.count_of-requires

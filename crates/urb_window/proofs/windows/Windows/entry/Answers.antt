@@ -1,6 +1,4 @@
-use Rattle.std.proofs.Common.{ap, ◌∙◌}
-use Rattle.std.specs.Prelude.{slice_get}
-use Rattle.urb_window.specs.RowEntries.{entries_from}
+use Rattle.urb_window.proofs.Common.{ap, entries_from, slice_get, ◌∙◌}
 use Rattle.urb_window.proofs.windows.Windows.entry.Goals as goal
 
 pub returns : goal.returns

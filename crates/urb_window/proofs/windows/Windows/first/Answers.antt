@@ -1,6 +1,5 @@
-use Rattle.std.proofs.Common.{ap, length, option_map, slice_get, subst, sym, ◌∙◌, ◌≤◌}
-use Rattle.urb_names.specs.declared.limits.TheConstants.{MAX_SENDERS}
-use Rattle.urb_window.specs.RowEntries.{entries_from}
+use Rattle.urb_window.proofs.Common.{MAX_SENDERS, ap, entries_from, length, option_map, slice_get}
+use Rattle.urb_window.proofs.Common.{subst, sym, ◌∙◌, ◌≤◌}
 use Rattle.urb_window.proofs.windows.Windows.first.Goals as goal
 
 pub first_from-requires : goal.first_from-requires

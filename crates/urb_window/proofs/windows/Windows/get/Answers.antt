@@ -1,8 +1,5 @@
-use Rattle.std.proofs.Common.{◌≡◌, rules, ap, sym, ◌∙◌}
-use Rattle.urb_window.specs.Entries.{value_of}
-use Rattle.urb_window.specs.Row.{pairs_of}
-use Rattle.urb_window.specs.internal.RowOperations.{numbered}
-use Rattle.urb_window.specs.internal.SenderRows.{row_at, no_row}
+use Rattle.urb_window.proofs.Common.{ap, no_row, numbered, pairs_of, row_at, rules, sym, value_of}
+use Rattle.urb_window.proofs.Common.{◌∙◌, ◌≡◌}
 use Rattle.urb_window.proofs.NameSearches.{value_rows}
 use Rattle.urb_window.proofs.windows.Windows.get.Goals as goal
 

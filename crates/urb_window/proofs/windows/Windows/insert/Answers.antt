@@ -1,17 +1,10 @@
-use Rattle.std.proofs.Common.{◌≡◌, ◌<◌, ◌≤◌, rules, arith, refl, ap, sym, ◌∙◌, subst}
-use Rattle.std.proofs.Common.{slice_set, length, Some, None}
-use Rattle.std.specs.List.{AllByRecursion}
-use Rattle.std.proofs.lemmas.List.{length-set, set-get_or}
-use Rattle.urb_names.specs.declared.limits.TheConstants.{MAX_SENDERS}
-use Rattle.urb_names.specs.RisingLists.{placed}
-use Rattle.urb_window.specs.Entries.{entry_lt, value_of}
-use Rattle.urb_window.specs.internal.RowOperations.{IsInserted, IsRow}
-use Rattle.urb_window.specs.RowEntries.{entries_from}
-use Rattle.urb_window.specs.internal.SenderRows.{row_at}
-use Rattle.urb_window.specs.internal.WindowInvariant.{HasRow}
+use Rattle.urb_window.proofs.Common.{AllByRecursion, HasRow, IsInserted, IsRow, MAX_SENDERS, None}
+use Rattle.urb_window.proofs.Common.{Some, ap, arith, entries_from, entry_lt, length, length-set}
+use Rattle.urb_window.proofs.Common.{placed, refl, row_at, rules, set-get_or, slice_set, subst, sym}
+use Rattle.urb_window.proofs.Common.{value_of, ◌<◌, ◌∙◌, ◌≡◌, ◌≤◌}
 use Rattle.urb_window.proofs.RowChanges.{all_set}
-use Rattle.urb_window.proofs.PreservedWindows.{found_here, inserted_here, kept_filled, kept_unreserved}
-use Rattle.urb_window.proofs.PreservedWindows.{row_here}
+use Rattle.urb_window.proofs.PreservedWindows.{found_here, inserted_here, kept_filled}
+use Rattle.urb_window.proofs.PreservedWindows.{kept_unreserved, row_here}
 use Rattle.urb_window.proofs.windows.Windows.insert.Goals as goal
 
 -- the allocation of rows was refused

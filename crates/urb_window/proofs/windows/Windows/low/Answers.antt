@@ -1,6 +1,4 @@
-use Rattle.std.proofs.Common.{◌≡◌, rules, ap, sym, ◌∙◌, length}
-use Rattle.urb_window.specs.Entries.{low_of}
-use Rattle.urb_window.specs.internal.SenderRows.{row_at, no_row}
+use Rattle.urb_window.proofs.Common.{ap, length, low_of, no_row, row_at, rules, sym, ◌∙◌, ◌≡◌}
 use Rattle.urb_window.proofs.NameSearches.{low_is}
 use Rattle.urb_window.proofs.windows.Windows.low.Goals as goal
 

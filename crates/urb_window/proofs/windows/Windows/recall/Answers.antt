@@ -1,5 +1,4 @@
-use Rattle.std.proofs.Common.{subst}
-use Rattle.urb_window.specs.WindowSet.{IsWindowSet}
+use Rattle.urb_window.proofs.Common.{IsWindowSet, subst}
 use Rattle.urb_window.proofs.EntryOrder.{entries_are}
 use Rattle.urb_window.proofs.windows.Windows.recall.Goals as goal
 

@@ -1,9 +1,6 @@
-use Rattle.std.proofs.Common.{◌≡◌, ◌<◌, rules, refl, ap, sym, ◌∙◌, subst, slice_set, length}
-use Rattle.std.specs.Prelude.{IsSome}
-use Rattle.urb_window.specs.Entries.{value_of, with_value}
-use Rattle.urb_window.specs.Row.{pairs_of}
-use Rattle.urb_window.specs.internal.RowOperations.{IsRow, numbered}
-use Rattle.urb_window.specs.RowEntries.{entries_from}
+use Rattle.urb_window.proofs.Common.{IsRow, IsSome, ap, entries_from, length, numbered, pairs_of}
+use Rattle.urb_window.proofs.Common.{refl, rules, slice_set, subst, sym, value_of, with_value, ◌<◌}
+use Rattle.urb_window.proofs.Common.{◌∙◌, ◌≡◌}
 use Rattle.urb_window.proofs.PreservedWindows.{found_here, kept_set, present_within, replaced_here}
 use Rattle.urb_window.proofs.windows.Windows.replace.Goals as goal
 

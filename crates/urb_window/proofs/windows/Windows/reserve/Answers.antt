@@ -1,11 +1,6 @@
-use Rattle.std.proofs.Common.{◌≡◌, ◌<◌, ◌≤◌, rules, refl, ap, sym, ◌∙◌, subst, slice_set}
-use Rattle.std.proofs.Common.{length, Some}
-use Rattle.std.specs.List.{AllByRecursion}
-use Rattle.std.proofs.lemmas.List.{set-get_or}
-use Rattle.urb_names.specs.declared.limits.TheConstants.{MAX_SENDERS}
-use Rattle.urb_window.specs.Row.{pairs_of}
-use Rattle.urb_window.specs.internal.RowOperations.{IsRow}
-use Rattle.urb_window.specs.RowEntries.{entries_from}
+use Rattle.urb_window.proofs.Common.{AllByRecursion, IsRow, MAX_SENDERS, Some, ap, entries_from}
+use Rattle.urb_window.proofs.Common.{length, pairs_of, refl, rules, set-get_or, slice_set, subst}
+use Rattle.urb_window.proofs.Common.{sym, ◌<◌, ◌∙◌, ◌≡◌, ◌≤◌}
 use Rattle.urb_window.proofs.PreservedWindows.{kept_filled, kept_reserved, same_here}
 use Rattle.urb_window.proofs.windows.Windows.reserve.Goals as goal
 

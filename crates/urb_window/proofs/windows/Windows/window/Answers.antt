@@ -1,6 +1,4 @@
-use Rattle.std.proofs.Common.{◌≡◌, rules, ap, sym, ◌∙◌}
-use Rattle.urb_window.specs.Entries.{window_of}
-use Rattle.urb_window.specs.internal.SenderRows.{row_at, no_row}
+use Rattle.urb_window.proofs.Common.{ap, no_row, row_at, rules, sym, window_of, ◌∙◌, ◌≡◌}
 use Rattle.urb_window.proofs.EntryParts.{window_is}
 use Rattle.urb_window.proofs.windows.Windows.window.Goals as goal
 

@@ -1,14 +1,7 @@
-use Rattle.std.proofs.Common.{◌≡◌, IsTrue, ℕ, true, false, refl, List, [], ◌∷◌, Some, sym, subst}
-use Rattle.std.proofs.Common.{ap}
-use Rattle.urb_names.specs.Names.{name}
-use Rattle.urb_names.specs.LabelsAndContents.{Content}
-use Rattle.urb_names.specs.Nodes.{majority_passes}
-use Rattle.urb_names.specs.Pairs.{has_pair}
-use Rattle.urb_stable.specs.Entries.{Entry}
-use Rattle.urb_stable.specs.Records.{pend}
-use Rattle.urb_world.specs.World.{image_of}
-use Rattle.urb_world.specs.internal.Scripts.{message}
-use Rattle.urb_world.specs.internal.Examples.{pending, certified}
+use Rattle.urb_world.proofs.Common.{Content, Entry, IsTrue, List, Some, [], ap, certified, false}
+use Rattle.urb_world.proofs.Common.{has_pair, image_of, majority_passes, message, name, pend, refl}
+use Rattle.urb_world.proofs.Common.{subst, sym, true, ℕ, ◌∷◌, ◌≡◌}
+use Rattle.urb_world.specs.internal.Examples.{pending}
 use Rattle.urb_world.proofs.worked.dangers.dangers.Goals as goal
 
 pub returns-clause-delivered_by_too_few : goal.returns-clause-delivered_by_too_few

@@ -1,6 +1,5 @@
 -- Some nodes tick too seldom, or one isn't ready.
-use Rattle.std.proofs.Common.{None, arith, refl, ◌≡◌}
-use Rattle.urb_node.specs.Part.{Ready, State, Storing}
+use Rattle.urb_world.proofs.Common.{None, Ready, State, Storing, arith, refl, ◌≡◌}
 use Rattle.urb_world.specs.internal.Examples.{pending}
 use Rattle.urb_world.proofs.worked.delivery.no_rounds.Goals as goal
 

@@ -1,6 +1,5 @@
 -- Nodes that aren't up, or aren't nodes of the group.
-use Rattle.std.proofs.Common.{refl, sym}
-use Rattle.std.proofs.lemmas.Bool.{false≢true}
+use Rattle.urb_world.proofs.Common.{false≢true, refl, sym}
 use Rattle.urb_world.proofs.worked.delivery.nodes_that_are_up.Goals as goal
 
 pub returns-clause-the_last_of_four_is_down : goal.returns-clause-the_last_of_four_is_down

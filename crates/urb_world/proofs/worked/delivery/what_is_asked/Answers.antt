@@ -1,12 +1,9 @@
 -- A node has not delivered what was held, or sends at a tick.
-use Rattle.std.proofs.Common.{List, [], arith, is_some, refl, subst, true, ◌∷◌, ◌≡◌, ◌≤◌, ℕ}
-use Rattle.urb_names.specs.Names.{name}
-use Rattle.urb_names.specs.Nodes.{is_node}
-use Rattle.urb_names.specs.Pairs.{message_of}
-use Rattle.urb_stable.specs.Records.{pend}
-use Rattle.urb_world.specs.Rounds.{IsHeldAmong}
-use Rattle.urb_world.specs.World.{World, image_of, opened, stored}
-use Rattle.urb_world.specs.internal.Examples.{limits, pending}
+use Rattle.urb_world.proofs.Common.{IsHeldAmong, List, World, [], arith, image_of, is_node, is_some}
+use Rattle.urb_world.proofs.Common.{limits, message_of, name, opened, pend, refl, subst, true, ℕ}
+use Rattle.urb_world.proofs.Common.{◌∷◌, ◌≡◌, ◌≤◌}
+use Rattle.urb_world.specs.World.{stored}
+use Rattle.urb_world.specs.internal.Examples.{pending}
 use Rattle.urb_world.proofs.worked.delivery.what_is_asked.Goals as goal
 
 -- node 1 of seven has stored a message, which nobody has delivered

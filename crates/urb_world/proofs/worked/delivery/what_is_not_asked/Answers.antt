@@ -1,16 +1,9 @@
 -- Other nodes, nodes that are down, and names that nobody holds do nothing.
-use Rattle.std.proofs.Common.{Bool, List, Some, [], arith, length, ltb-true, map, nat_lt}
-use Rattle.std.proofs.Common.{if◌then◌else◌, refl, subst, suc, sym, zero, ℕ, ◌∷◌, ◌≡◌, ◌≤◌}
-use Rattle.std.proofs.lemmas.Bool.{and_parts, false≢true}
-use Rattle.urb_names.specs.ListPrefixes.{Begins}
-use Rattle.urb_names.specs.LabelsAndContents.{Content}
-use Rattle.urb_names.specs.Names.{name, names}
-use Rattle.urb_names.specs.Nodes.{is_node}
-use Rattle.urb_node.specs.Part.{Ready}
-use Rattle.urb_world.specs.Rounds.{IsHeldAmong, Ticks, ticks_of}
-use Rattle.urb_world.specs.World.{started}
-use Rattle.urb_world.specs.internal.Examples.{node_in}
-use Rattle.urb_world.specs.internal.Scripts.{message}
+use Rattle.urb_world.proofs.Common.{Begins, Bool, Content, IsHeldAmong, List, Ready, Some, []}
+use Rattle.urb_world.proofs.Common.{and_parts, arith, false≢true, if◌then◌else◌, is_node, length}
+use Rattle.urb_world.proofs.Common.{ltb-true, map, message, name, names, nat_lt, node_in, refl}
+use Rattle.urb_world.proofs.Common.{started, subst, suc, sym, zero, ℕ, ◌∷◌, ◌≡◌, ◌≤◌}
+use Rattle.urb_world.specs.Rounds.{Ticks, ticks_of}
 use Rattle.urb_world.proofs.worked.delivery.what_is_not_asked.Goals as goal
 
 -- a node of the group has broadcast nothing, and another one has

@@ -1,8 +1,6 @@
 -- What wasn't delivered, wasn't ticked, or is due.
-use Rattle.std.proofs.Common.{List, None, Option, Some, [], ap, arith, refl, ◌∷◌, ◌≡◌, ℕ}
-use Rattle.urb_names.specs.LabelsAndContents.{Content}
-use Rattle.urb_names.specs.Names.{name}
-use Rattle.urb_world.specs.internal.Scripts.{message}
+use Rattle.urb_world.proofs.Common.{Content, List, None, Option, Some, [], ap, arith, message, name}
+use Rattle.urb_world.proofs.Common.{refl, ℕ, ◌∷◌, ◌≡◌}
 use Rattle.urb_world.proofs.worked.delivery.what_was_delivered.Goals as goal
 
 -- an empty list is no other

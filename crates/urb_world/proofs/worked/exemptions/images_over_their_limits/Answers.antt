@@ -1,6 +1,5 @@
 -- The first record of node 1 is over its limits.
-use Rattle.std.proofs.Common.{[], arith, ◌<◌}
-use Rattle.urb_stable.specs.Entries.{IsEntry}
+use Rattle.urb_world.proofs.Common.{IsEntry, [], arith, ◌<◌}
 use Rattle.urb_world.specs.internal.Examples.{pending}
 use Rattle.urb_world.proofs.worked.exemptions.images_over_their_limits.Goals as goal
 

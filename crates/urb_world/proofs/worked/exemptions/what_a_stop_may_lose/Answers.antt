@@ -1,19 +1,10 @@
 -- What was stored isn't a node's own pair, or isn't of a node of the group.
-use Rattle.std.proofs.Common.{Bool, List, [], if◌then◌else◌, refl, subst, suc, true, zero, ℕ, ◌==◌}
-use Rattle.std.proofs.Common.{false, ◌&&◌, ◌||◌, ◌∷◌, ◌≡◌}
-use Rattle.std.proofs.lemmas.Bool.{false≢true}
-use Rattle.urb_names.specs.LabelsAndContents.{Content, Label}
-use Rattle.urb_names.specs.ListPrefixes.{Begins}
-use Rattle.urb_names.specs.Names.{name, same_message, same_name}
-use Rattle.urb_names.specs.Nodes.{is_node}
-use Rattle.urb_names.specs.Pairs.{has_pair}
-use Rattle.urb_node.specs.Part.{Ready}
-use Rattle.urb_stable.specs.DeliveredLogs.{entries, log}
-use Rattle.urb_stable.specs.Entries.{Entry}
-use Rattle.urb_stable.specs.Records.{pend}
-use Rattle.urb_world.specs.World.{image_of}
-use Rattle.urb_world.specs.internal.Examples.{node_in, pending}
-use Rattle.urb_world.specs.internal.Scripts.{message}
+use Rattle.urb_world.proofs.Common.{Begins, Bool, Content, Entry, Label, List, Ready, [], entries}
+use Rattle.urb_world.proofs.Common.{false, false≢true, has_pair, if◌then◌else◌, image_of, is_node}
+use Rattle.urb_world.proofs.Common.{log, message, name, node_in, pend, refl, same_message}
+use Rattle.urb_world.proofs.Common.{same_name, subst, suc, true, zero, ℕ, ◌&&◌, ◌==◌, ◌||◌, ◌∷◌}
+use Rattle.urb_world.proofs.Common.{◌≡◌}
+use Rattle.urb_world.specs.internal.Examples.{pending}
 use Rattle.urb_world.proofs.worked.exemptions.what_a_stop_may_lose.Goals as goal
 
 -- what a node of the group has stored, and what another one has

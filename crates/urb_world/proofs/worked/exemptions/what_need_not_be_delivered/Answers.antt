@@ -1,21 +1,10 @@
 -- Only the nodes of the group deliver, and only their messages are delivered.
-use Rattle.std.proofs.Common.{Bool, List, None, Some, [], ap, arith, eqb-true, if◌then◌else◌, is_some}
-use Rattle.std.proofs.Common.{length, map, ne_eqb, refl, subst, suc, sym, zero, ℕ, ◌&&◌, ◌==◌, ◌∷◌}
-use Rattle.std.proofs.Common.{true, ◌≡◌, ◌≤◌}
-use Rattle.std.proofs.lemmas.Bool.{false≢true}
-use Rattle.urb_names.specs.LabelsAndContents.{Content, Label}
-use Rattle.urb_names.specs.ListPrefixes.{Begins}
-use Rattle.urb_names.specs.Names.{name, names}
-use Rattle.urb_names.specs.Nodes.{is_node}
-use Rattle.urb_names.specs.Pairs.{message_of}
-use Rattle.urb_names.specs.Release.{part_of}
-use Rattle.urb_node.specs.Part.{Down, Node, Ready}
-use Rattle.urb_stable.specs.DeliveredLogs.{log}
-use Rattle.urb_stable.specs.Records.{pend}
-use Rattle.urb_world.specs.Rounds.{IsHeldAmong}
-use Rattle.urb_world.specs.World.{World, image_of, opened}
-use Rattle.urb_world.specs.internal.Examples.{certified, limits, node_in}
-use Rattle.urb_world.specs.internal.Scripts.{message}
+use Rattle.urb_world.proofs.Common.{Begins, Bool, Content, Down, IsHeldAmong, Label, List, Node}
+use Rattle.urb_world.proofs.Common.{None, Ready, Some, World, [], ap, arith, certified, eqb-true}
+use Rattle.urb_world.proofs.Common.{false≢true, if◌then◌else◌, image_of, is_node, is_some, length}
+use Rattle.urb_world.proofs.Common.{limits, log, map, message, message_of, name, names, ne_eqb}
+use Rattle.urb_world.proofs.Common.{node_in, opened, part_of, pend, refl, subst, suc, sym, true}
+use Rattle.urb_world.proofs.Common.{zero, ℕ, ◌&&◌, ◌==◌, ◌∷◌, ◌≡◌, ◌≤◌}
 use Rattle.urb_world.proofs.worked.exemptions.what_need_not_be_delivered.Goals as goal
 
 -- a node of the group, and another one, which is down

@@ -1,9 +1,6 @@
 -- The log of any records is in order, and has no name twice.
-use Rattle.std.proofs.Common.{ap, length, reverse, sym, ◌∙◌, ◌≡◌}
-use Rattle.urb_names.proofs.LogRows.{length-row, no_name_twice, part-released, reach, row}
-use Rattle.urb_names.specs.Release.{part_of}
-use Rattle.urb_stable.specs.DeliveredLogs.{log}
-use Rattle.urb_stable.specs.Records.{cert}
+use Rattle.urb_world.proofs.Common.{ap, cert, length, length-row, log, no_name_twice, part-released}
+use Rattle.urb_world.proofs.Common.{part_of, reach, reverse, row, sym, ◌∙◌, ◌≡◌}
 use Rattle.urb_world.proofs.worked.logs.what_every_log_is.Goals as goal
 
 pub returns-clause-numbers : goal.returns-clause-numbers

@@ -1,8 +1,5 @@
-use Rattle.std.proofs.Common.{◌≡◌, ℕ, List, None, Option, Some, [], ◌∷◌, ap, inl, inr}
-use Rattle.urb_names.specs.ListPrefixes.{Begins, OneBegins}
-use Rattle.urb_names.specs.Names.{name}
-use Rattle.urb_names.specs.LabelsAndContents.{Content, Label}
-use Rattle.urb_world.specs.internal.Scripts.{message}
+use Rattle.urb_world.proofs.Common.{Begins, Content, Label, List, None, OneBegins, Option, Some, []}
+use Rattle.urb_world.proofs.Common.{ap, inl, inr, message, name, ℕ, ◌∷◌, ◌≡◌}
 use Rattle.urb_world.proofs.worked.meanings.logs_have_messages.Goals as goal
 
 -- the log of one name, with this message

@@ -1,11 +1,8 @@
 -- What goes on in new groups, and what is lost in others.
-use Rattle.std.proofs.Common.{List, None, Option, Some, [], ap, arith, inl, refl, ℕ}
-use Rattle.std.proofs.Common.{⊎_elim, ◌∷◌, ◌≡◌}
-use Rattle.urb_names.specs.LabelsAndContents.{Content, Label}
-use Rattle.urb_names.specs.Names.{name}
-use Rattle.urb_stable.specs.Entries.{Entry, name_of}
-use Rattle.urb_world.specs.internal.Examples.{certified, pending}
-use Rattle.urb_world.specs.internal.Scripts.{message}
+use Rattle.urb_world.proofs.Common.{Content, Entry, Label, List, None, Option, Some, [], ap, arith}
+use Rattle.urb_world.proofs.Common.{certified, inl, message, name, name_of, refl, ℕ, ⊎_elim, ◌∷◌}
+use Rattle.urb_world.proofs.Common.{◌≡◌}
+use Rattle.urb_world.specs.internal.Examples.{pending}
 use Rattle.urb_world.proofs.worked.moments.what_goes_on.Goals as goal
 
 some-none : {A : Type 0} (x : A) (xs : List A) → x ∷ xs ≡ [] → ⊥

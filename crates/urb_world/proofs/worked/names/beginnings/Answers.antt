@@ -1,9 +1,6 @@
 -- A list begins another one, or it doesn't.
-use Rattle.std.proofs.Common.{List, [], ap, arith, inl, inr, refl, sym, zero, ℕ}
-use Rattle.std.proofs.Common.{◌∷◌, ◌≡◌}
-use Rattle.urb_names.specs.LabelsAndContents.{Label}
-use Rattle.urb_names.specs.ListPrefixes.{OneBegins}
-use Rattle.urb_names.specs.Names.{name, names}
+use Rattle.urb_world.proofs.Common.{Label, List, OneBegins, [], ap, arith, inl, inr, name, names}
+use Rattle.urb_world.proofs.Common.{refl, sym, zero, ℕ, ◌∷◌, ◌≡◌}
 use Rattle.urb_world.proofs.worked.names.beginnings.Goals as goal
 
 -- the sender of the first name

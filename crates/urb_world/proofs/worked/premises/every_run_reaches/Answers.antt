@@ -1,6 +1,5 @@
 -- Every run reaches its last world.
-use Rattle.urb_world.specs.Step.{Of_images, Of_new}
-use Rattle.urb_world.specs.World.{image_of, opened, started}
+use Rattle.urb_world.proofs.Common.{Of_images, Of_new, image_of, opened, started}
 use Rattle.urb_world.proofs.worked.premises.every_run_reaches.Goals as goal
 
 pub returns-clause-new : goal.returns-clause-new

@@ -1,15 +1,10 @@
 -- The conclusions are false of small worlds and lists.
-use Rattle.std.proofs.Common.{List, None, Option, Some, [], ap, arith, is_some, refl, subst, true, ℕ}
-use Rattle.std.proofs.Common.{⊎_elim, ◌∷◌, ◌≡◌, ◌≤◌}
-use Rattle.urb_world.specs.Rounds.{IsHeldAmong}
-use Rattle.urb_world.specs.World.{World, image_of, opened, stored}
-use Rattle.urb_world.specs.internal.Examples.{certified, flagged, limits, pending}
-use Rattle.urb_world.specs.internal.Scripts.{message}
-use Rattle.urb_names.specs.Names.{name}
-use Rattle.urb_names.specs.LabelsAndContents.{Content, Label}
-use Rattle.urb_names.specs.Nodes.{is_node}
-use Rattle.urb_names.specs.Pairs.{message_of}
-use Rattle.urb_stable.specs.Records.{pend}
+use Rattle.urb_world.proofs.Common.{Content, IsHeldAmong, Label, List, None, Option, Some, World}
+use Rattle.urb_world.proofs.Common.{[], ap, arith, certified, image_of, is_node, is_some, limits}
+use Rattle.urb_world.proofs.Common.{message, message_of, name, opened, pend, refl, subst, true, ℕ}
+use Rattle.urb_world.proofs.Common.{⊎_elim, ◌∷◌, ◌≡◌, ◌≤◌}
+use Rattle.urb_world.specs.World.{stored}
+use Rattle.urb_world.specs.internal.Examples.{flagged, pending}
 use Rattle.urb_world.proofs.worked.premises.what_laws_conclude.Goals as goal
 
 -- node 1 of two has stored a message, which nobody has delivered

@@ -1,9 +1,8 @@
 -- The premises are true of small worlds and lists.
-use Rattle.std.proofs.Common.{List, [], arith, inl, lt-ltb, ltb-true, nat_lt, refl, ◌++◌, map}
-use Rattle.std.proofs.lemmas.Bool.{and_from, and_parts}
+use Rattle.urb_world.proofs.Common.{Act, List, [], and_from, and_parts, arith, inl, lt-ltb}
+use Rattle.urb_world.proofs.Common.{ltb-true, map, nat_lt, nodes, refl, ◌++◌}
 use Rattle.urb_world.proofs.rounds.JudgedRounds.{of-nodes}
-use Rattle.urb_world.specs.Rounds.{Act, Ticks, ticks_of}
-use Rattle.urb_names.specs.Nodes.{nodes}
+use Rattle.urb_world.specs.Rounds.{Ticks, ticks_of}
 use Rattle.urb_world.proofs.worked.premises.what_laws_suppose.Goals as goal
 
 pub returns-clause-all_seven_are_up : goal.returns-clause-all_seven_are_up

@@ -1,16 +1,10 @@
 -- The recovery of a group that has stored nothing has no events.
-use Rattle.std.proofs.Common.{Bool, List, [], false, refl, subst, sym, ℕ, ◌++◌, ◌∷◌, ◌≡◌}
-use Rattle.urb_names.specs.LabelsAndContents.{Content}
-use Rattle.urb_names.specs.Names.{name}
-use Rattle.urb_names.specs.Nodes.{nodes}
-use Rattle.urb_node.specs.Part.{Ready}
-use Rattle.urb_world.specs.RecoveredWorlds.{AllDelivered, Delivers}
-use Rattle.urb_world.specs.RecoveryPlans.{Plan, after, all_back, both, carries, comes_back, each}
-use Rattle.urb_world.specs.RecoveryPlans.{packets_of, recovery, round_of, rounds, ticks_of}
-use Rattle.urb_world.specs.Step.{Event, run}
-use Rattle.urb_world.specs.World.{World, started}
-use Rattle.urb_world.specs.internal.Examples.{limits, node_in}
-use Rattle.urb_world.specs.internal.Scripts.{message}
+use Rattle.urb_world.proofs.Common.{AllDelivered, Bool, Content, Event, List, Plan, Ready, World}
+use Rattle.urb_world.proofs.Common.{[], after, all_back, both, carries, comes_back, each, false}
+use Rattle.urb_world.proofs.Common.{limits, message, name, node_in, nodes, recovery, refl, round_of}
+use Rattle.urb_world.proofs.Common.{rounds, run, started, subst, sym, ℕ, ◌++◌, ◌∷◌, ◌≡◌}
+use Rattle.urb_world.specs.RecoveredWorlds.{Delivers}
+use Rattle.urb_world.specs.RecoveryPlans.{packets_of, ticks_of}
 use Rattle.urb_world.proofs.worked.prospects.what_can_be_delivered.Goals as goal
 
 -- plans without events, one after the other

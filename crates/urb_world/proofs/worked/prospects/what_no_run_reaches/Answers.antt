@@ -1,16 +1,11 @@
 -- No event is one of node 0, so node 0 stays as it was at the start.
-use Rattle.std.proofs.Common.{Bool, Err, List, None, Ok, Result, [], ap, arith, false, if◌then◌else◌}
-use Rattle.std.proofs.Common.{ne_eqb, refl, subst, suc, sym, true, zero, ℕ, ◌==◌, ◌∙◌, ◌∷◌, ◌≡◌}
-use Rattle.urb_names.specs.CarriedPackets.{Carried}
-use Rattle.urb_names.specs.Nodes.{is_node}
-use Rattle.urb_names.specs.declared.refusal.PacketFault.{PacketFault}
-use Rattle.urb_node.specs.Part.{Down, Node, Ready, State}
-use Rattle.urb_node.specs.Replies.{Reply}
-use Rattle.urb_world.specs.Step.{Arrive, Commit, Crash, Event, Fail, IsStart, Of_images, Of_new}
-use Rattle.urb_world.specs.Step.{Restart, Submit, Tick, at_node, bytes_arrive, is_for, packet_arrives}
-use Rattle.urb_world.specs.Step.{run, step, world_after}
-use Rattle.urb_world.specs.World.{World, started}
-use Rattle.urb_world.specs.internal.Examples.{limits}
+use Rattle.urb_world.proofs.Common.{Arrive, Bool, Carried, Commit, Crash, Down, Err, Event, Fail}
+use Rattle.urb_world.proofs.Common.{IsStart, List, Node, None, Of_images, Of_new, Ok, PacketFault}
+use Rattle.urb_world.proofs.Common.{Ready, Reply, Restart, Result, State, Submit, Tick, World, []}
+use Rattle.urb_world.proofs.Common.{ap, arith, at_node, false, if◌then◌else◌, is_for, is_node}
+use Rattle.urb_world.proofs.Common.{limits, ne_eqb, packet_arrives, refl, run, started, step, subst}
+use Rattle.urb_world.proofs.Common.{suc, sym, true, world_after, zero, ℕ, ◌==◌, ◌∙◌, ◌∷◌, ◌≡◌}
+use Rattle.urb_world.specs.Step.{bytes_arrive}
 use Rattle.urb_world.proofs.worked.prospects.what_no_run_reaches.Goals as goal
 
 -- of two worlds with the same node 0, either has it

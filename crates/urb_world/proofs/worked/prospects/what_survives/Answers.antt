@@ -1,13 +1,7 @@
 -- A stop leaves nothing of a new group, and nothing fits together.
-use Rattle.std.proofs.Common.{List, [], flat_map, refl, subst, sym, ℕ, ◌++◌, ◌∷◌, ◌≡◌}
-use Rattle.std.proofs.lemmas.Bool.{false≢true}
-use Rattle.urb_names.specs.Nodes.{nodes}
-use Rattle.urb_stable.specs.DeliveredLogs.{entries, log}
-use Rattle.urb_stable.specs.Entries.{Entry}
-use Rattle.urb_stable.specs.Fitting.{misfits_behind}
-use Rattle.urb_world.specs.ProcessStops.{SurvivesStop}
-use Rattle.urb_world.specs.World.{started}
-use Rattle.urb_world.specs.internal.Examples.{limits}
+use Rattle.urb_world.proofs.Common.{Entry, List, SurvivesStop, [], entries, false≢true, flat_map}
+use Rattle.urb_world.proofs.Common.{limits, log, misfits_behind, nodes, refl, started, subst, sym}
+use Rattle.urb_world.proofs.Common.{ℕ, ◌++◌, ◌∷◌, ◌≡◌}
 use Rattle.urb_world.proofs.worked.prospects.what_survives.Goals as goal
 
 survives : (n : ℕ) → SurvivesStop (started (limits n 10))

@@ -1,7 +1,5 @@
 -- No event delivers nothing.
-use Rattle.std.proofs.Common.{List, [], refl, ◌∷◌, ◌≡◌}
-use Rattle.urb_names.specs.Names.{name}
-use Rattle.urb_world.specs.Step.{run}
+use Rattle.urb_world.proofs.Common.{List, [], name, refl, run, ◌∷◌, ◌≡◌}
 use Rattle.urb_world.proofs.worked.recovery_words.events_that_go.Goals as goal
 
 none-some : {A : Type 0} (x : A) (xs : List A) → [] ≡ x ∷ xs → ⊥

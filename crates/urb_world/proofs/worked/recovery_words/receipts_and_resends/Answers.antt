@@ -1,6 +1,5 @@
 -- The receipt of a node's own message.
-use Rattle.std.proofs.Common.{refl}
-use Rattle.urb_world.specs.internal.Scripts.{message}
+use Rattle.urb_world.proofs.Common.{message, refl}
 use Rattle.urb_world.proofs.worked.recovery_words.receipts_and_resends.Goals as goal
 
 pub returns-clause-its_own : goal.returns-clause-its_own

@@ -1,6 +1,5 @@
 -- Some node has a message, and doesn't tick.
-use Rattle.std.proofs.Common.{arith, refl}
-use Rattle.urb_world.specs.Step.{run}
+use Rattle.urb_world.proofs.Common.{arith, refl, run}
 use Rattle.urb_world.proofs.worked.recovery_words.rounds_of_no_events.Goals as goal
 
 pub returns-clause-in_four : goal.returns-clause-in_four

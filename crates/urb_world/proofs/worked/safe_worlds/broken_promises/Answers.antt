@@ -1,14 +1,7 @@
 -- What isn't safe isn't promised.
-use Rattle.std.proofs.Common.{Bool, List, Some, [], ap, arith, false, refl, true, ◌∷◌, ◌≡◌, ℕ}
-use Rattle.urb_names.specs.LabelsAndContents.{Content}
-use Rattle.urb_names.specs.Names.{name}
-use Rattle.urb_names.specs.Nodes.{majority_passes}
-use Rattle.urb_names.specs.Pairs.{has_pair}
-use Rattle.urb_stable.specs.Entries.{Entry}
-use Rattle.urb_stable.specs.Records.{pend}
-use Rattle.urb_world.specs.World.{image_of}
-use Rattle.urb_world.specs.internal.Examples.{certified}
-use Rattle.urb_world.specs.internal.Scripts.{message}
+use Rattle.urb_world.proofs.Common.{Bool, Content, Entry, List, Some, [], ap, arith, certified}
+use Rattle.urb_world.proofs.Common.{false, has_pair, image_of, majority_passes, message, name, pend}
+use Rattle.urb_world.proofs.Common.{refl, true, ℕ, ◌∷◌, ◌≡◌}
 use Rattle.urb_world.proofs.worked.safe_worlds.broken_promises.Goals as goal
 
 -- the message that is found is the one that too few nodes hold

@@ -1,6 +1,5 @@
 -- A majority holds the message.
-use Rattle.std.proofs.Common.{refl}
-use Rattle.urb_world.specs.internal.Scripts.{message}
+use Rattle.urb_world.proofs.Common.{message, refl}
 use Rattle.urb_world.proofs.worked.safe_worlds.held_by_more_than_half.Goals as goal
 
 pub returns-clause-one_of_one : goal.returns-clause-one_of_one

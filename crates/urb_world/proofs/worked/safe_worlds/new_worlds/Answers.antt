@@ -1,13 +1,8 @@
 -- A new group keeps all that is promised. So does a world whose nodes all hold the same message.
-use Rattle.std.proofs.Common.{Bool, [], arith, false, inl, refl, true, ◌∷◌, ◌||◌, ◌≡◌}
-use Rattle.std.proofs.lemmas.Bool.{and_parts, false≢true}
-use Rattle.urb_names.specs.LabelsAndContents.{Content, Limits}
-use Rattle.urb_names.specs.Names.{name, same_message, same_name}
-use Rattle.urb_names.specs.Pairs.{has_pair}
-use Rattle.urb_names.proofs.SameNames.{same_message-true}
-use Rattle.urb_world.specs.SafetyProperties.{OneMessage, Safe}
-use Rattle.urb_world.specs.World.{started}
-use Rattle.urb_world.specs.internal.Scripts.{message}
+use Rattle.urb_world.proofs.Common.{Bool, Content, Limits, OneMessage, Safe, [], and_parts, arith}
+use Rattle.urb_world.proofs.Common.{false, false≢true, has_pair, inl, message, name, refl}
+use Rattle.urb_world.proofs.Common.{same_message, same_message-true, same_name, started, true, ◌||◌}
+use Rattle.urb_world.proofs.Common.{◌∷◌, ◌≡◌}
 use Rattle.urb_world.proofs.worked.safe_worlds.new_worlds.Goals as goal
 
 safe : (size : Limits) → Safe (started size)

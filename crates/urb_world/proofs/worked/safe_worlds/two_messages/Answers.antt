@@ -1,9 +1,5 @@
 -- Two nodes hold different messages under one name.
-use Rattle.std.proofs.Common.{ap, arith, refl, ◌≡◌}
-use Rattle.urb_names.specs.LabelsAndContents.{Content}
-use Rattle.urb_names.specs.Names.{name}
-use Rattle.urb_world.specs.internal.Examples.{filled}
-use Rattle.urb_world.specs.internal.Scripts.{message}
+use Rattle.urb_world.proofs.Common.{Content, ap, arith, filled, message, name, refl, ◌≡◌}
 use Rattle.urb_world.proofs.worked.safe_worlds.two_messages.Goals as goal
 
 -- messages with the client's numbers 1 and 2 differ

@@ -1,12 +1,9 @@
 -- Images that fit together are within their cap and have their majorities.
-use Rattle.std.proofs.Common.{arith, refl, suc, zero, ◌∷◌, []}
-use Rattle.std.proofs.lemmas.Bool.{false≢true}
+use Rattle.urb_world.proofs.Common.{[], arith, certified, false≢true, held_by_three, image_of}
+use Rattle.urb_world.proofs.Common.{limits, message, name, refl, suc, two_of_one, zero, ◌∷◌}
 use Rattle.urb_world.proofs.steps.Runs.{fitting-kept}
 use Rattle.urb_world.proofs.stops.LimitChanges.{have-majorities, own-within}
-use Rattle.urb_world.specs.World.{image_of}
-use Rattle.urb_world.specs.internal.Examples.{certified, held_by_three, limits, pending, two_of_one}
-use Rattle.urb_world.specs.internal.Scripts.{message}
-use Rattle.urb_names.specs.Names.{name}
+use Rattle.urb_world.specs.internal.Examples.{pending}
 use Rattle.urb_world.proofs.worked.starts.caps_and_majorities.Goals as goal
 
 pub returns-clause-as_many_as_the_cap : goal.returns-clause-as_many_as_the_cap

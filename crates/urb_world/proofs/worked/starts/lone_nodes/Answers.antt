@@ -1,9 +1,5 @@
-use Rattle.std.proofs.Common.{[], arith, refl}
-use Rattle.std.proofs.lemmas.Bool.{false≢true}
+use Rattle.urb_world.proofs.Common.{[], arith, certified, false≢true, message, name, refl}
 use Rattle.urb_world.proofs.recovery.ReturningNodes.{whole-joined}
-use Rattle.urb_world.specs.internal.Examples.{certified}
-use Rattle.urb_world.specs.internal.Scripts.{message}
-use Rattle.urb_names.specs.Names.{name}
 use Rattle.urb_world.proofs.worked.starts.lone_nodes.Goals as goal
 
 pub returns-clause-alone : goal.returns-clause-alone

@@ -1,18 +1,11 @@
 -- Nodes that are ready leave exactly their records.
-use Rattle.std.proofs.Common.{List, [], arith, inl, inr, length, refl, subst, suc, sym, true, zero, ℕ}
-use Rattle.std.proofs.Common.{⊎_elim, ◌∷◌, ◌≡◌, ◌≤◌}
-use Rattle.std.proofs.lemmas.Bool.{false≢true}
+use Rattle.urb_world.proofs.Common.{Entry, HaveMajorities, List, [], arith, cert, false≢true}
+use Rattle.urb_world.proofs.Common.{has_name, has_pair, held_by_three, image_of, inl, inr, length}
+use Rattle.urb_world.proofs.Common.{limits, message, name, own, pend, refl, subst, suc, sym, true}
+use Rattle.urb_world.proofs.Common.{two_of_one, zero, ℕ, ⊎_elim, ◌∷◌, ◌≡◌, ◌≤◌}
 use Rattle.urb_world.proofs.steps.Runs.{fitting-kept}
 use Rattle.urb_world.proofs.stops.LimitChanges.{have-majorities, own-within}
-use Rattle.urb_world.specs.StartLimits.{HaveMajorities}
-use Rattle.urb_world.specs.World.{image_of}
-use Rattle.urb_world.specs.internal.Examples.{held_by_three, limits, two_of_one}
-use Rattle.urb_world.specs.internal.Scripts.{message}
-use Rattle.urb_names.specs.Names.{has_name, name}
-use Rattle.urb_names.specs.Pairs.{has_pair, own}
 use Rattle.urb_stable.proofs.KeptRules.{majority_held-grows}
-use Rattle.urb_stable.specs.Entries.{Entry}
-use Rattle.urb_stable.specs.Records.{cert, pend}
 use Rattle.urb_world.proofs.worked.starts.starts.Goals as goal
 
 -- the same images have the same majorities

@@ -1,13 +1,8 @@
 -- What a stop must not leave.
-use Rattle.std.proofs.Common.{List, None, Option, Some, [], ap, refl, ◌∷◌, ◌≡◌, ℕ}
-use Rattle.urb_names.specs.LabelsAndContents.{Content, Label}
-use Rattle.urb_names.specs.Names.{name}
-use Rattle.urb_node.specs.Replies.{Drafted, Same}
-use Rattle.urb_node.specs.declared.answer.Answer.TheVariants.{Accepted}
-use Rattle.urb_world.specs.Step.{Submit, step}
-use Rattle.urb_world.specs.World.{image_of, opened}
-use Rattle.urb_world.specs.internal.Examples.{certified, filled, limits, pending}
-use Rattle.urb_world.specs.internal.Scripts.{message}
+use Rattle.urb_world.proofs.Common.{Accepted, Content, Drafted, Label, List, None, Option, Same}
+use Rattle.urb_world.proofs.Common.{Some, Submit, [], ap, certified, filled, image_of, limits}
+use Rattle.urb_world.proofs.Common.{message, name, opened, refl, step, ℕ, ◌∷◌, ◌≡◌}
+use Rattle.urb_world.specs.internal.Examples.{pending}
 use Rattle.urb_world.proofs.worked.survivals.what_does_not_go_on.Goals as goal
 
 some-none : {A : Type 0} (x : A) (xs : List A) → x ∷ xs ≡ [] → ⊥

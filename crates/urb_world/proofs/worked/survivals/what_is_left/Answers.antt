@@ -1,10 +1,6 @@
 -- When a group may not start with other limits, and which node is stranded.
-use Rattle.std.proofs.Common.{[], arith, refl, ⊎_elim, ◌∷◌}
-use Rattle.std.proofs.lemmas.Bool.{false≢true}
-use Rattle.urb_names.specs.Names.{name}
-use Rattle.urb_world.specs.World.{image_of}
-use Rattle.urb_world.specs.internal.Examples.{filled, held_by_three, two_of_one}
-use Rattle.urb_world.specs.internal.Scripts.{message}
+use Rattle.urb_world.proofs.Common.{[], arith, false≢true, filled, held_by_three, image_of, message}
+use Rattle.urb_world.proofs.Common.{name, refl, two_of_one, ⊎_elim, ◌∷◌}
 use Rattle.urb_world.proofs.worked.survivals.what_is_left.Goals as goal
 
 pub returns-clause-a_smaller_cap : goal.returns-clause-a_smaller_cap

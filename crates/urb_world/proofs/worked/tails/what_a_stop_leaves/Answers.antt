@@ -1,12 +1,9 @@
 -- What a stop may leave of a node whose store holds records ahead, and what it may not.
-use Rattle.std.proofs.Common.{List, [], inl, inr, refl, subst, true, ℕ, ◌∷◌}
-use Rattle.std.proofs.Common.{◌≡◌}
-use Rattle.std.proofs.lemmas.Bool.{false≢true}
-use Rattle.urb_stable.specs.Entries.{Entry}
-use Rattle.urb_stable.specs.Fitting.{keeps_d}
-use Rattle.urb_world.specs.StoresAhead.{IsAhead, MayFollow}
-use Rattle.urb_world.specs.World.{image_of, started, stored, updated}
-use Rattle.urb_world.specs.internal.Examples.{certified, limits, pending}
+use Rattle.urb_world.proofs.Common.{Entry, IsAhead, List, MayFollow, [], certified, false≢true}
+use Rattle.urb_world.proofs.Common.{image_of, inl, inr, keeps_d, limits, refl, started, subst, true}
+use Rattle.urb_world.proofs.Common.{updated, ℕ, ◌∷◌, ◌≡◌}
+use Rattle.urb_world.specs.World.{stored}
+use Rattle.urb_world.specs.internal.Examples.{pending}
 use Rattle.urb_world.proofs.stops.AheadWorlds.{ahead-begins}
 use Rattle.urb_world.proofs.worked.tails.what_a_stop_leaves.Goals as goal
 

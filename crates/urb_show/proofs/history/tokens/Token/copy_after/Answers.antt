@@ -1,5 +1,4 @@
-use Rattle.std.proofs.Common.{◌≤◌, ap, subst, length, List}
-use mathlib.Core.List.{IsPrefix}
+use Rattle.urb_show.proofs.Common.{IsPrefix, List, ap, length, subst, ◌≤◌}
 use Rattle.urb_show.proofs.Prefixes.{prefix_shorter}
 use Rattle.urb_show.proofs.history.tokens.Token.copy_after.Goals as goal
 

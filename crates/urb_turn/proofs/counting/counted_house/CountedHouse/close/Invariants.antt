@@ -1,7 +1,5 @@
-use Rattle.std.proofs.Common.{IsTrue, ◌≡◌, length}
+use Rattle.urb_turn.proofs.Common.{AllRestSince, IsTrue, events_in, length, ◌≡◌}
 use Rattle.urb_turn.proofs.counting.counted_house.CountedHouse.close.Given as goal
-use Rattle.urb_turn.specs.Counting.{events_in}
-use Rattle.urb_turn.specs.LastLoans.{AllRestSince}
 
 abbrev pub invariant-loop-tally : goal.invariant-loop-tally
 invariant-loop-tally g l = record {

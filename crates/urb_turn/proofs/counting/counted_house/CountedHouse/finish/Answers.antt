@@ -1,9 +1,7 @@
-use Rattle.std.proofs.Common.{Option, List, ap, arith, subst, sym, ◌-◌, ◌∙◌}
-use Rattle.std.specs.Prelude.{slice_set}
-use Rattle.urb_world.specs.Step.{Event}
+use Rattle.urb_turn.proofs.Common.{AllRest, Event, List, LoanEnds, Option, ap, arith, slice_set}
+use Rattle.urb_turn.proofs.Common.{subst, sym, ◌-◌, ◌∙◌}
 use Rattle.urb_turn.proofs.LastLoans.{finishes_on}
 use Rattle.urb_turn.proofs.counting.counted_house.CountedHouse.finish.Goals as goal
-use Rattle.urb_turn.specs.internal.LoanEnds.{AllRest, LoanEnds}
 
 -- each node has rested since its worker's last loan, of which this is one
 pub invariant_of-self : goal.invariant_of-self

@@ -1,8 +1,7 @@
-use Rattle.std.proofs.Common.{subst, ◌≡◌}
+use Rattle.urb_turn.proofs.Common.{AllRest, subst, ◌≡◌}
 use Rattle.urb_turn.proofs.LastLoans.{left_since}
-use Rattle.urb_turn.proofs.counting.counted_house.CountedHouse.recall_kill.Goals as goal
 use Rattle.urb_turn.specs.internal.CountedHouses.{CountedView}
-use Rattle.urb_turn.specs.internal.LoanEnds.{AllRest}
+use Rattle.urb_turn.proofs.counting.counted_house.CountedHouse.recall_kill.Goals as goal
 
 pub returns-clause-left : goal.returns-clause-left
 returns-clause-left g c start stores =

@@ -1,5 +1,4 @@
-use Rattle.std.proofs.Common.{◌≡◌}
-use Rattle.std.specs.Prelude.{replicate}
+use Rattle.urb_turn.proofs.Common.{replicate, ◌≡◌}
 use Rattle.urb_turn.proofs.counting.last_loans.LastLoans.new.Given as goal
 
 abbrev pub invariant-loop : goal.invariant-loop

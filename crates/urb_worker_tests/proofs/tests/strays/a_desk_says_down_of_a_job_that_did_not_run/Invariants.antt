@@ -1,5 +1,5 @@
 use Rattle.urb_show.specs.Lists.{lists_in}
-use Rattle.urb_worker_tests.proofs.tests.strays.a_desk_tells_of_a_job_that_did_not_run.Given as goal
+use Rattle.urb_worker_tests.proofs.tests.strays.a_desk_says_down_of_a_job_that_did_not_run.Given as goal
 
 abbrev pub ghosts-ask_desk : goal.ghosts-ask_desk
 ghosts-ask_desk g a =

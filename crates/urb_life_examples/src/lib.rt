@@ -1,0 +1,11 @@
+//! Worked examples of the life of a group over any number of starts (`Lives` of `urb_daemon`).
+//!
+//! The process may be killed while stores hold records ahead of their events. Then the life goes on
+//! from the world as the stores have it. The examples say which worlds it reaches in this way, and
+//! which it never reaches.
+//!
+//! No program calls these functions. A wrong definition makes one of their clauses false, and then
+//! the prover refuses it.
+#![tactic(auto)]
+
+pub mod worked;
