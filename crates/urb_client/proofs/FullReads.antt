@@ -2,8 +2,8 @@
 use Rattle.std.proofs.Common.{◌≡◌, ℕ, ◌+◌, ◌-◌, ◌≤◌, List, ◌++◌, Option, arith, length, take}
 use Rattle.std.proofs.Common.{slice_range, sym, ap, ◌∙◌, subst, le_refl, drop_at, length-take-le}
 use Rattle.std.proofs.lemmas.Slice.{take-put_mid_below}
-use Rattle.std.specs.Io.KnownBytes.{Consumes, Keeps}
-use Rattle.std.proofs.KnownBytes.{Consumes-trans, Consumes-kept}
+use Rattle.std.specs.Io.KnownBytes.{Consumes}
+use Rattle.std.proofs.KnownBytes.{Consumes-trans}
 use borrow.Rule.Slice.PartMut.{put_mid, post_of}
 use lib.Seq.{take-add, take-append-le}
 
@@ -34,11 +34,3 @@ filled_more known mid new at k n old piece within fits before now_read =
     (take-put_mid_below at k old piece at (le_refl _) within) in
     subst (Consumes known new) (ap (λ l. take at old ++ l) (sym part) ∙ joined)
     (Consumes-trans _ _ _ _ _ before now_read)
-
--- a failed read leaves what was read into the front of a buffer
-pub filled_same : (known mid new : Option (List ℕ)) (at k : ℕ) (old piece : List ℕ)
-    → at ≤ length old → Consumes known mid (take at old) → Keeps mid new
-    → Consumes known new (take at (put_mid at k old piece))
-filled_same known mid new at k old piece within before kept =
-    subst (Consumes known new) (sym (take-put_mid_below at k old piece at (le_refl _) within))
-    (Consumes-kept _ _ _ _ before kept)

@@ -1,12 +1,12 @@
 -- Which names of a sender a node lacks, by what a group says of the node's log and of the sender.
 use Rattle.urb_feed.proofs.Common.{Bool, GroupView, IsRow, Label, Limits, List, None, Option, Shows}
-use Rattle.urb_feed.proofs.Common.{Some, World, and_from, and_left, ap, arith, cond, cond-true}
+use Rattle.urb_feed.proofs.Common.{Some, World, and_from, ap, arith, cond, cond-true}
 use Rattle.urb_feed.proofs.Common.{false, has_name, is_node, length, lt-ltb, name, names, nat_le}
 use Rattle.urb_feed.proofs.Common.{nat_lt, not, part_of, refl, stored, subst, suc, sym, true}
 use Rattle.urb_feed.proofs.Common.{unwrap_or, ℕ, ◌&&◌, ◌∙◌, ◌≡◌, ◌≤◌}
 use Rattle.std.proofs.lemmas.Option.{cond_some}
 use Rattle.urb_feed.proofs.Deliveries.{has_by_number}
-use Rattle.urb_feed.proofs.LackConditions.{neither, sent, unsent}
+use Rattle.urb_feed.proofs.LackConditions.{sent}
 use Rattle.urb_group.specs.GroupCalls.{TellsLog}
 use Rattle.urb_world.specs.SafetyProperties.{Safe}
 use Rattle.urb_group.specs.GroupViews.{IsSound}
@@ -27,20 +27,6 @@ row_by_log w q s own xs counted here same order j low =
     ∙ (ap (λ n. nat_le j n && not (has_name (log (stored w q)) (name s j))) (sym counted)
     ∙ (ap (λ ys. nat_le j own && not (has_name ys (name s j))) (sym same)
     ∙ ap (λ b. nat_le j own && b) (has_by_number s j xs order low)))
-
--- a row of a node that the group doesn't have: it lacks nothing
-pub row_of_none : (w : World) (q s own : ℕ) → is_node w.size.n q ≡ false → IsRow w q s own own
-row_of_none w q s own none j low =
-    and_left (is_node w.size.n q) _ none ∙ sym (neither j own own (omega arith))
-
--- a row of a sender that has stored nothing
-pub row_unsent : (w : World) (q s own delivered : ℕ) → own ≡ own_of w s → own ≡ 0
-    → IsRow w q s delivered own
-row_unsent w q s own delivered counted none j low =
-    unsent (is_node w.size.n q) (is_node w.size.n s) (nat_lt 0 j)
-    (not (has_name (log (stored w q)) (name s j))) j (length (w.node s).broadcast)
-    (omega (arith, counted, none))
-    ∙ sym (neither j own delivered (omega arith))
 
 -- what a group says of a sender's own messages, as a number
 pub own_is : (w : World) (s own : ℕ) (told : Option ℕ)

@@ -1,35 +1,11 @@
 -- A node opened from its image.
 use Rattle.urb_node.proofs.Common.{Content, Entry, IsNext, KeepsOwn, Label, Limits, List, NodeView}
-use Rattle.urb_node.proofs.Common.{None, Ready, ShowsNode, [], acked, ap, are_rising, cert, false}
-use Rattle.urb_node.proofs.Common.{has_name, has_pair, length, log, opened_node, own, own_acks}
+use Rattle.urb_node.proofs.Common.{None, Ready, ShowsNode, [], acked, are_rising, false}
+use Rattle.urb_node.proofs.Common.{has_name, log, opened_node, own}
 use Rattle.urb_node.proofs.Common.{pend, refl, self_acks, subst, true, ℕ, ◌++◌, ◌∷◌, ◌≡◌}
 use Rattle.urb_node.proofs.JoinedMemory.{SaysMore, own-after, up-joined-shows}
 use Rattle.urb_node.proofs.NextRecords.{keeps-next, own-parts}
 use Rattle.urb_node.specs.NodeViews.{no_view}
-
--- to show the node opened from an image, a memory only has to say what it holds of the image
-pub shows-opened_node : (size : Limits) (p : ℕ) (view : NodeView) (records : List Entry)
-    → KeepsOwn size p [] records
-    → ((x : Label) (m : Content) → has_pair view.pairs x m ≡ has_pair (pend records) x m)
-    → ((x : Label) → has_name view.certified x ≡ has_name (cert records) x)
-    → view.log ≡ log records → view.count ≡ length records → view.state ≡ Ready → view.cursor ≡ None
-    → ((x : Label) (q : ℕ) → has_name (cert records) x ≡ false
-    → acked view.acks x q ≡ acked (own_acks p records) x q)
-    → view.heard ≡ [] → ShowsNode size p view (opened_node p records)
-shows-opened_node size p view records k pairs certified l n s c a h =
-    record {
-      pairs = pairs;
-      certified = certified;
-      log = l;
-      count = n;
-      state = s;
-      cursor = c;
-      acks =
-          a;
-      heard = λ x q. ap (λ heard. acked heard x q) h;
-      rules = k;
-      broadcast = refl;
-    }
 
 -- an empty memory shows a node that has read nothing
 pub nothing-shows : (size : Limits) (p : ℕ) → ShowsNode size p no_view (opened_node p [])

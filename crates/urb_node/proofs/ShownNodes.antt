@@ -7,12 +7,11 @@ use Rattle.urb_node.proofs.Common.{is_some, length, list_all, log, majority_pass
 use Rattle.urb_node.proofs.Common.{or_cases, or_left, or_right, own, own_acks, pend, refl}
 use Rattle.urb_node.proofs.Common.{same_list, same_message, same_name, same_name-same}
 use Rattle.urb_node.proofs.Common.{same_name-true, same_names, same_pairs, says, self_acks, subst}
-use Rattle.urb_node.proofs.Common.{suc, sym, tells, true, with_ack, ℕ, ⊎_elim, ◌&&◌, ◌==◌, ◌||◌}
+use Rattle.urb_node.proofs.Common.{sym, tells, true, with_ack, ℕ, ⊎_elim, ◌&&◌, ◌==◌, ◌||◌}
 use Rattle.urb_node.proofs.Common.{◌∙◌, ◌∷◌, ◌≡◌}
 use Rattle.urb_names.proofs.FoundPairs.{Unique, same_found}
 use Rattle.urb_names.proofs.OrderedPairs.{has_pair-behind, has_pair-first}
 use Rattle.urb_names.specs.CyclicOrder.{rising}
-use Rattle.urb_node.specs.Steps.{next_position}
 use Rattle.urb_stable.proofs.OwnRules.{own-unique}
 use Rattle.urb_stable.proofs.RisingRecords.{own-records, rising-records}
 
@@ -64,11 +63,6 @@ pub shown-broadcast : (size : Limits) (p : ℕ) (view : NodeView) (node : Node)
     → ShowsNode size p view node → are_rising view.pairs ≡ true → node.broadcast ≡ own p view.pairs
 shown-broadcast size p view node s r =
     s.broadcast ∙ sym (own-records size p node.records view.pairs s.rules r s.pairs)
-
--- the position of the next record is one more than the count in the memory
-pub shown-position : (size : Limits) (p : ℕ) (view : NodeView) (node : Node)
-    → ShowsNode size p view node → next_position node ≡ suc view.count
-shown-position size p view node s = ap suc (sym s.count)
 
 -- ---- acknowledgements
 

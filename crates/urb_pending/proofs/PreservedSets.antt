@@ -10,7 +10,7 @@ use Rattle.std.proofs.lemmas.Bool.{cases_Bool, le-leb}
 use Rattle.urb_pending.specs.PendingSet.{added}
 use Rattle.urb_pending.proofs.InsertedPairs.{all_inserted, rising_inserted}
 use Rattle.urb_pending.proofs.OwnPairs.{mine, mine_before, mine_inserted, mine_other, names_more}
-use Rattle.urb_pending.proofs.OwnPairs.{new_behind, own_mine, part_mine}
+use Rattle.urb_pending.proofs.OwnPairs.{own_mine, part_mine}
 
 within : (limits : Limits) (x : Label) → IsLabel x → x.sender ≤ limits.n → x.seq ≤ limits.cap
     → is_within limits x ≡ true
@@ -33,12 +33,6 @@ next_name : (set : PendingSet) (x : Label) → x.sender ≡ set.node
     → name set.node (length (own set.node set.pairs) + 1) ≡ x
 next_name set x e f =
     ap (λ s. name s (length (own set.node set.pairs) + 1)) (sym e) ∙ ap (name x.sender) (sym f)
-
--- the node's next name is not pending
-pub next_is_new : (set : PendingSet) → IsPendingSet set
-    → message_of set.pairs (name set.node (length (own set.node set.pairs) + 1)) ≡ None
-next_is_new set h =
-    new_behind (name set.node (length (own set.node set.pairs) + 1)) set.pairs (own_before set h)
 
 mine_next : (set : PendingSet) → IsPendingSet set → (x : Label) (m : Content) → x.sender ≡ set.node
     → x.seq ≡ length (own set.node set.pairs) + 1

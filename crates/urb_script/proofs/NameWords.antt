@@ -1,7 +1,7 @@
 -- Names as words: a node's digit, a full stop, and the number.
 use Rattle.urb_script.proofs.Common.{IsLabel, Label, List, [], ap, arith, decimal, decimal_digit}
 use Rattle.urb_script.proofs.Common.{drop, get_or, length, length-drop, name_text, sym, take, ℕ}
-use Rattle.urb_script.proofs.Common.{◌++◌, ◌+◌, ◌-◌, ◌<◌, ◌∙◌, ◌∷◌, ◌≡◌, ◌≤◌}
+use Rattle.urb_script.proofs.Common.{◌++◌, ◌+◌, ◌-◌, ◌<◌, ◌∙◌, ◌∷◌, ◌≡◌}
 use Rattle.std.proofs.lemmas.List.{take_all}
 
 -- a name's word
@@ -42,16 +42,6 @@ name_front x word l e =
 name_back : (x : Label) (word : List ℕ) → IsLabel x → word ≡ name_text x
     → drop 2 word ≡ decimal x.seq
 name_back x word l e = ap (λ (w : List ℕ). drop 2 w) (e ∙ spelled x l)
-
--- a word of a sender's digit, a full stop and a number is the word of that name
-pub name_whole : (word : List ℕ) (sender seq : ℕ) → 2 ≤ length word → get_or word 1 0 ≡ 46
-    → take 1 word ≡ decimal sender → drop 2 word ≡ decimal seq
-    → word ≡ decimal sender ++ (46 ∷ decimal seq)
-name_whole [] sender seq long stop front back = absurd (omega (arith, long))
-name_whole (a ∷ []) sender seq long stop front back = absurd (omega (arith, long))
-name_whole (a ∷ b ∷ word) sender seq long stop front back =
-    ap (λ (c : ℕ). a ∷ c ∷ word) stop ∙ ap (λ (w : List ℕ). a ∷ 46 ∷ w) back
-    ∙ ap (λ (w : List ℕ). w ++ (46 ∷ decimal seq)) front
 
 -- the end of a word, as a slice of it
 pub name_tail : (x : Label) (word : List ℕ) → IsLabel x → word ≡ name_text x

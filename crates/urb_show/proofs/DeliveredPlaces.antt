@@ -50,13 +50,6 @@ delivered_later opened past later lists sound begins delivered w shows place =
     IsPrefix (map in_log (list_at lists place)) (entries (stored u (suc place)))) (sym same)
     (prefix_trans _ _ _ (delivered w shows place) grown)
 
--- so are prefixes of these lists
-pub delivered_less : (opened : GroupView) (past : List Event) (xs ys : Lists) → Begins xs ys
-    → AreDeliveredBy opened past ys → AreDeliveredBy opened past xs
-delivered_less opened past xs ys begins delivered w shows place =
-    prefix_trans _ _ _ (map_prefix in_log _ _ (begins_at xs ys place begins))
-    (delivered w shows place)
-
 -- what is delivered at the opening
 pub opened_delivered : (opened group : GroupView) (past : List Event) (base : Lists) → past ≡ []
     → group ≡ opened → lists_in group ≡ base → IsSound group → AreDeliveredBy opened past base

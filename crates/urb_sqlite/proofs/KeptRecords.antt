@@ -82,14 +82,6 @@ same_if_undone old new settled h = record {
   autocommit = λ _. h.autocommit;
 }
 
--- if all was committed, a refused statement changed no row
-pub same_if_refused : (sql : List ℕ) (params : Row) (old new : State) (e : Error)
-    → old.now ≡ old.committed → Executes sql params old new (Err e) → IsSame old new
-same_if_refused sql params old new e settled h = elim (left_by_err sql params old new e h) [
-  | inl same ↦ same_if_unchanged old new same
-  | inr undone ↦ same_if_undone old new settled undone
-]
-
 -- after a call that changed no row, the next position still agrees with the rows
 pub kept_same : (old new : State) (next : ℕ) → IsTrue new.is_open → IsSame old new → IsKept old next
     → IsKept new next

@@ -63,10 +63,6 @@ names-next image i r certified l e h =
     one_more : (i : ℕ) → i + 1 ≡ suc i
     one_more i = omega arith
 
--- an empty set has the certified names of no records
-pub names-none : (certified : set.BTreeSet Label) → set.IsEmpty certified → IsSetOf [] certified
-names-none certified empty x = ap (λ ks. set.contains by_name (record { keys = ks }) x) empty
-
 -- ---- the node's own messages
 
 one-pair : (r : Entry) (x : Label) (m : Content) → (r ≡ Pend x m) ⊎ (r ≡ PendCert x m)
@@ -141,18 +137,6 @@ count-certificate p image i r x counts l e is h =
     h
 
 -- ---- what the earlier records say
-
--- an empty list holds what is said of no records
-pub told-none : (p : ℕ) (image : List Entry) (told : List Before) → told ≡ []
-    → AreBefore p image 0 told
-told-none p image told e = record {
-  size = ap length e;
-  each = λ k r before here found.
-      absurd (none_at k before (ap (λ xs. slice_get xs k) (sym e) ∙ found));
-}
-  where
-    none_at : (k : ℕ) (before : Before) → slice_get [] k ≡ Some before → ⊥
-    none_at k before e = cc
 
 -- with what is said of the next record, the list is right one record further on
 pub told-more : (p : ℕ) (image : List Entry) (i : ℕ) (r : Entry) (old new : List Before)

@@ -220,11 +220,6 @@ pub own-numbered : (size : Limits) (p : ℕ) (rs : List Entry) → KeepsOwn size
     → Numbered p (pend rs)
 own-numbered size p rs h = kept-numbered (more_nodes size) (λ q. rs) p rs (own-kept size p rs h)
 
--- in records that keep rules A and B, each client numbers the node's own messages 1, 2, 3, ..
-pub own-numbers : (size : Limits) (p : ℕ) (rs : List Entry) → KeepsOwn size p [] rs
-    → Numbers (own p (pend rs))
-own-numbers size p rs h = kept-numbers (more_nodes size) (λ q. rs) p rs (own-kept size p rs h)
-
 -- ---- one more record
 
 -- the pairs before a record, with its own, are those after it

@@ -1,7 +1,7 @@
 -- The images of a group's nodes, as they are indexed one after the other.
-use Rattle.urb_stable.proofs.Common.{Entry, List, NodeImage, Some, [], ap, arith, length, map}
-use Rattle.urb_stable.proofs.Common.{slice_get, slice_index_or, suc, sym, take, take-suc, take_all}
-use Rattle.urb_stable.proofs.Common.{ℕ, ⊎_elim, ◌++◌, ◌+◌, ◌<◌, ◌∙◌, ◌∷◌, ◌≡◌, ◌≤◌}
+use Rattle.urb_stable.proofs.Common.{Entry, List, NodeImage, [], ap, arith, length, map}
+use Rattle.urb_stable.proofs.Common.{slice_get, slice_index_or, suc, sym, take, take-suc}
+use Rattle.urb_stable.proofs.Common.{ℕ, ⊎_elim, ◌++◌, ◌+◌, ◌<◌, ◌∙◌, ◌∷◌, ◌≡◌}
 use Rattle.std.proofs.lemmas.List.{map-append}
 use Rattle.urb_stable.proofs.IndexGrowth.{one_longer, read_more}
 use Rattle.urb_stable.specs.internal.NumberedImages.{AreNumbered}
@@ -15,20 +15,6 @@ pub record AreRead {X : Type 0} (items : X → List Entry) (images : List X) (n 
   pub numbered : AreNumbered read
   -- their records are those of the first n images
   pub same : map (λ image. image.records) read ≡ map items (take n images)
-
--- at the start no image is read
-pub read-none : {X : Type 0} (items : X → List Entry) (images : List X) (read : List NodeImage)
-    → read ≡ [] → AreRead items images 0 read
-read-none items images read e =
-    record {
-      size = ap length e;
-      numbered =
-          λ i image found. absurd (none_at i image (ap (λ xs. slice_get xs i) (sym e) ∙ found));
-      same = ap (map (λ image. image.records)) e;
-    }
-  where
-    none_at : (i : ℕ) (image : NodeImage) → slice_get [] i ≡ Some image → ⊥
-    none_at i image e = cc
 
 -- once the next image is read, one image more is read
 pub read-more : {X : Type 0} (items : X → List Entry) (images : List X) (i : ℕ) (x : X)
@@ -62,9 +48,3 @@ read-more items images i x old new y l e is put h =
         let number : image.number ≡ i + 1 = ap (λ z. z.number) same ∙ ap (λ z. z.number) is in
         let size = h.size in
         omega (arith, number, place, size)
-
--- once all images are read, their records are those of the images
-pub read-all : {X : Type 0} (items : X → List Entry) (images : List X) (n : ℕ)
-    (read : List NodeImage) → length images ≤ n → AreRead items images n read
-    → map (λ image. image.records) read ≡ map items images
-read-all items images n read l h = h.same ∙ ap (map items) (take_all n images l)

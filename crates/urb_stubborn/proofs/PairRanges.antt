@@ -65,21 +65,6 @@ rising_kept test (p ∷ ps) h =
 first_of : (p : Label × Content) (ps : Pairs) (x : Label) → first_name (p ∷ ps) ≡ Some x → p.0 ≡ x
 first_of p ps x e = cc
 
--- if the first name doesn't come after the last one, it is also the first of those that don't
-pub within_first : (last : Option Label) (ps : Pairs) (x : Label) → first_name ps ≡ Some x
-    → is_within last x ≡ true → first_name (filter (λ p. is_within last p.0) ps) ≡ Some x
-within_first last [] x e h = e
-within_first last (p ∷ ps) x e h =
-    let here : p.0 ≡ x = first_of p ps x e in
-    ap first_name (cond-true (is_within last p.0) (p ∷ filter (λ q. is_within last q.0) ps)
-    (filter (λ q. is_within last q.0) ps) (ap (is_within last) here ∙ h)) ∙ e
-
--- if there is no first name, there is none that doesn't come after the last one
-pub within_none : (last : Option Label) (ps : Pairs) → first_name ps ≡ None
-    → first_name (filter (λ p. is_within last p.0) ps) ≡ None
-within_none last [] e = refl
-within_none last (p ∷ ps) e = absurd cc
-
 -- if one comes after the last name, so do all that follow it
 pub all_over : (last : Option Label) (ps : Pairs) (x : Label) → are_rising ps ≡ true
     → first_name ps ≡ Some x → is_within last x ≡ false → filter (λ p. is_within last p.0) ps ≡ []

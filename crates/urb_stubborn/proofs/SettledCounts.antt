@@ -76,20 +76,6 @@ kept_heard a b x q i end config node marks counts place low settled kept =
         ∙ get_or-set_other a.settled i (y.sender - 1) end 0 other in
         before y (record { sender = h.sender; first = h.first; last = omega (arith, h.last, same) })
 
--- what a count says about a name that is not above it
-pub passed_settled : {A : Type 0} (a : Inside A) (x : Label) (count : ℕ) → IsKept a → 0 < x.sender
-    → 0 < x.seq → settled_of a.settled x.sender ≡ count → x.seq ≤ count
-    → (y : Label) → y.sender ≡ x.sender → x.seq ≤ y.seq → y.seq ≤ count
-    → is_due a.config.n a.node a.heard.marks y ≡ false
-passed_settled a x count kept from first is low y same l u =
-    kept.settled y (record {
-      sender = omega (arith, from, same);
-      first =
-          omega (arith, first, l);
-      last =
-          subst (λ (s : ℕ). y.seq ≤ settled_of a.settled s) (sym same) (omega (arith, u, is));
-    })
-
 -- a name that isn't due is passed
 pub passed_itself : (r : Resending) (x : Label) → is_due r.limits.n r.node r.heard x ≡ false
     → IsPassed r x x

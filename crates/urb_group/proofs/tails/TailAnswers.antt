@@ -296,9 +296,6 @@ passes-anyway size places p before r x m e w s =
 module _ {A : Type 0} {size : Limits} {places : List (Place A)} (group : IsGroup size places)
     (at p : ℕ) (own : p ≡ suc at) (node : Place A) (is : node ≡ slice_index_or places at node)
     (low : at < size.n) (before : List Entry) (r : Entry) where
-  abbrev a_of : World → Bool
-  a_of w = keeps_a size (stored w p ++ before) r
-
   abbrev b_of : World → Bool
   b_of w = keeps_b p (stored w p ++ before) r
 
