@@ -29,7 +29,7 @@ PLACES: Mapping[str, int] = {
     # a row gives the value back
     "crates/urb_window/src/windows.rt": 1,
     # a channel's own refusal
-    "crates/urb_desk/src/lost.rt": 1,
+    "crates/urb_desk/src/worker_gone.rt": 1,
 }
 # `Err(AllocError)`, `from(AllocError)`, `return AllocError`, `AllocFailed { .. }`, and so on. In a
 # type one of `<`, `,`, `:`, `&` and a blank stands before the name.

@@ -36,12 +36,10 @@ PLACES: Mapping[tuple[str, str], int] = {
 HANDS: Mapping[tuple[str, str], int] = {
     # the ways in: of arrivals, of what requests ask, and of ticks
     ("Sender<Ticket>", "crates/urb_link/src/arrival_queue.rt"): 2,
-    ("Sender<Ticket>", "crates/urb_desk/src/desk_queue.rt"): 2,
+    ("Sender<Ticket>", "crates/urb_desk/src/desk_queue.rt"): 3,
     ("NodeQueue", "crates/urb_link/src/tick_queue.rt"): 3,
     # the two offers of a ticket, which the ways in of arrivals and ticks make
     ("Sender<Ticket>", "crates/urb_link/src/offers.rt"): 2,
-    # the one function that sends a desk's ticket, with the witness if the worker is gone
-    ("Sender<Ticket>", "crates/urb_desk/src/lost.rt"): 1,
     # the channel of a node's worker: its sender has the node beside it
     ("Sender<Ticket>", "crates/urb_link/src/node_queue.rt"): 2,
     ("NodeQueue", "crates/urb_link/src/node_queue.rt"): 5,
@@ -49,7 +47,8 @@ HANDS: Mapping[tuple[str, str], int] = {
     ("Sender<Ticket>", "crates/urb_desk/src/node_service.rt"): 1,
     ("NodeQueue", "crates/urb_worker/src/group_room.rt"): 1,
     ("NodeQueue", "crates/urb_worker/src/listeners.rt"): 4,
-    ("NodeQueue", "crates/urb_worker/src/node_listeners.rt"): 2,
+    ("NodeQueue", "crates/urb_worker/src/node_listeners.rt"): 1,
+    ("NodeQueue", "crates/urb_worker/src/receiving.rt"): 1,
     ("NodeQueue", "crates/urb_worker/src/worker_threads.rt"): 2,
 }
 

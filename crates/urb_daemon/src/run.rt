@@ -196,7 +196,7 @@ where
     run_stores(rt, alloc, serving, journals, reporter, console)
 }
 
-// Writes the line of a group that ended after so many events.
+// Writes the line of a group that ended, with the number of its events.
 fn write_closed<W: Write>(output: &mut W, events: u64) -> io::Result<()>
     ensures { OnOk result
         (Appends (W.contents output.old) (W.contents output.new) (closed_line events)) }

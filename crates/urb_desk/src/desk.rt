@@ -16,9 +16,12 @@ ghost use Rattle.urb_turn.specs.Settlings.{told_in};
 
 use crate::NodeService;
 use crate::desk_queue::DeskQueue;
-use crate::lost::{HouseGone, Lost, WorkerGone, after_read, turn_for};
+use crate::house_gone::{HouseGone, judge_read};
+use crate::lost::Lost;
 use crate::node_service::DeskService;
 use crate::responses::{down_response, response_to_read, response_to_turn};
+use crate::stray_turn::judge_turn;
+use crate::worker_gone::WorkerGone;
 use std::alloc::Global;
 use std::marker::Model;
 use std::sync::Wait;
@@ -135,7 +138,7 @@ impl<'a, K: HouseName, R: Wait + Clock> NodeDesk<'a, K, R> {
         }
     }
 
-    // Says `Down`, and keeps the witness of what is lost.
+    // Says `Down`, and keeps the witness of the loss.
     fn say_down(&mut self, lost: Lost) -> Response
         ensures same { (self.new.node ≡ self.old.node) × (self.new.known ≡ self.old.known)
             × (self.new.past ≡ self.old.past) }
@@ -163,8 +166,8 @@ impl<'a, K: HouseName, R: Wait + Clock> NodeDesk<'a, K, R> {
         response_to_turn(&reply, status)
     }
 
-    // The response for what the worker returned. If it is a turn of the request, the response is the
-    // turn's, after the reader has learnt what it published. Otherwise the response is `Down`.
+    // The response to a result of the worker. For a turn of the request it is the turn's, after the
+    // reader has learnt what the turn published. For another result it is `Down`.
     #[tactic(auto, using(crate::proofs::DeskEvents::works_by_turn))]
     fn respond_if_asked(&mut self, request: &Request, finished: Finished<K>) -> Response
         ensures node { self.new.node ≡ self.old.node }
@@ -172,7 +175,7 @@ impl<'a, K: HouseName, R: Wait + Clock> NodeDesk<'a, K, R> {
         ensures told { IsTurnFor self.old.node self.old.past (asked_by request.now) finished
             → said_by result ≡ told_of finished.reply finished.status }
     {
-        match turn_for(self.node, request, &self.seen, finished) {
+        match judge_turn(self.node, request, &self.seen, finished) {
             Ok(turn) => self.respond_to_turn(turn),
             Err(stray) => self.say_down(Lost::Turn(stray)),
         }
@@ -194,7 +197,7 @@ impl<'a, K: HouseName, R: Wait + Clock> NodeDesk<'a, K, R> {
         }
     }
 
-    // The response to what came of a request at the worker, or refused memory.
+    // The response to a request that was given to the worker. Memory may be refused.
     fn respond_or_refuse(
         &mut self,
         request: &Request,
@@ -253,7 +256,7 @@ impl<'a, K: HouseName, R: Wait + Clock> NodeDesk<'a, K, R> {
         let (rt, alloc, node, readers) = (self.rt, self.alloc, self.node, self.service.readers);
         let mut position = self.position_now();
         let came = readers.read(rt, alloc, &mut position, node, place, max);
-        let page = match after_read(came)? {
+        let page = match judge_read(came)? {
             Ok(page) => page,
             Err(witness) => return Ok(Err(witness)),
         };

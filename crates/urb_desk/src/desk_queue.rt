@@ -6,8 +6,8 @@ ghost use Rattle.urb_desk.specs.Desks.{IsJobOf, control_job};
 ghost use Rattle.urb_desk.specs.internal.Desks.{IsWork};
 
 use crate::TicketPlaces;
-use crate::lost::{WorkerGone, await_answer, send_ticket};
-use crossbeam_channel::Sender;
+use crate::worker_gone::{WorkerGone, judge_answer, judge_send};
+use crossbeam_channel::{Receiver, Sender};
 use std::alloc::Global;
 use std::marker::Model;
 use std::sync::Wait;
@@ -131,6 +131,23 @@ impl<'a, K: HouseName> DeskQueue<'a, K> {
         let asked = DeskJob::of(alloc, self.node, request)?;
         self.send(rt, alloc, asked)
     }
+}
+
+// Sends the worker a ticket. `NoMemory`: the channel had no memory for it.
+fn send_ticket<K: HouseName, R: Wait>(
+    rt: &R,
+    sender: &Sender<Ticket<K>>,
+    ticket: Ticket<K>,
+) -> Result<Result<(), WorkerGone>, NoMemory> {
+    judge_send(sender.send(rt, ticket))
+}
+
+// Waits for the answer to a ticket.
+fn await_answer<K: HouseName, R: Wait>(
+    rt: &R,
+    answer: &Receiver<Finished<K>>,
+) -> Result<Finished<K>, WorkerGone> {
+    judge_answer(answer.recv(rt))
 }
 
 // The job at a node that does what a request asks.

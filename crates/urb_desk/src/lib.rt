@@ -27,11 +27,14 @@ mod desk;
 pub mod desk_laws;
 mod desk_queue;
 mod frame_progress;
+mod house_gone;
 mod lost;
 mod node_service;
 mod reader_pool;
 mod responses;
+mod stray_turn;
 mod ticket_places;
+mod worker_gone;
 pub mod worked;
 
 pub use acceptor::{Acceptor, Refusals, accept_clients};

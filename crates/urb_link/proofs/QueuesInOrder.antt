@@ -1,6 +1,7 @@
 -- Which node the queue at a place belongs to.
-use Rattle.std.proofs.Common.{List, Some, ap, arith, length, slice_get, suc, sym, zero, ℕ}
-use Rattle.std.proofs.Common.{◌+◌, ◌∙◌, ◌∷◌, ◌≡◌}
+use Rattle.std.proofs.Common.{List, Some, ap, arith, get_or, length, refl, slice_get, suc, sym}
+use Rattle.std.proofs.Common.{zero, ℕ, ◌+◌, ◌<◌, ◌∙◌, ◌∷◌, ◌≡◌}
+use Rattle.std.proofs.lemmas.Option.{slice_get_read}
 use Rattle.urb_names.specs.Nodes.{nodes, numbers_from}
 
 -- of numbers in a row, the one at a place
@@ -21,3 +22,10 @@ pub at_place : (queues : List ℕ) (place queue : ℕ) → queues ≡ nodes (len
 at_place queues place queue order is =
     let same : 1 + place ≡ place + 1 = omega arith in
     number_at 1 (length queues) place queue (sym (ap (λ qs. slice_get qs place) order) ∙ is) ∙ same
+
+-- So it is if the queue was read at a place within them.
+pub read_at : (queues : List ℕ) (place queue : ℕ) → queues ≡ nodes (length queues)
+    → place < length queues → queue ≡ get_or queues place queue → queue ≡ place + 1
+read_at queues place queue order low is =
+    at_place queues place queue order
+    (slice_get_read queues (length queues) place queue refl low is)

@@ -77,7 +77,7 @@ impl<K: HouseName> NodeJobs<K> {
     }
 }
 
-// The channel of the worker of this node, with room for so many tickets.
+// The channel of the worker of this node, with room for `room` tickets.
 fn open_channel<K: HouseName>(
     alloc: Global,
     node: NodeId,
@@ -89,7 +89,7 @@ fn open_channel<K: HouseName>(
     Ok((NodeQueue { node, sender }, NodeJobs { node, receiver }))
 }
 
-/// The channels of the workers of nodes 1 to `count`, each with room for so many tickets: the
+/// The channels of the workers of nodes 1 to `count`, each with room for `room` tickets: the
 /// sending ends and the receiving ends. An error if memory was refused.
 #[tactic(auto, using(urb_names::proofs::Places::numbers_more))]
 pub fn open_channels<K: HouseName>(

@@ -32,6 +32,7 @@
 //! middle of a read, and these wait for nobody.
 #![tactic(auto)]
 
+mod accepting;
 mod acts;
 mod feeding;
 mod group_room;
@@ -41,6 +42,8 @@ mod outlets;
 mod own_jobs;
 mod polling;
 mod pulse;
+mod receiving;
+mod ringing;
 mod tickets;
 pub mod worked;
 mod worker_group;

@@ -143,7 +143,7 @@ pub(crate) struct GroupListening {
 }
 
 // Starts the threads of all nodes and the timer. `None` if it could not.
-#[tactic(auto, using(urb_link::proofs::QueuesInOrder::at_place))]
+#[tactic(auto, using(urb_link::proofs::QueuesInOrder::read_at))]
 fn start_threads<'s, E, K: HouseName + Send + Sync, H: Reporter, R: Wait + Clock + Sync>(
     scope: &'s Scope<'s, E>,
     setting: &GroupSetting<'s, H, R>,

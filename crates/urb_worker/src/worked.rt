@@ -1,3 +1,5 @@
-//! Worked examples of the definitions: turns, stores, loans and desks, and what none of them can be.
+//! Worked examples of the definitions: listeners and the stores that workers serve, and what none of
+//! them can be.
 
+pub mod listenings;
 pub mod served_stores;

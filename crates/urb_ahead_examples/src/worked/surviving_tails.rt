@@ -47,7 +47,7 @@ pub fn worlds_that_survive()
     ensures of_seven { SurvivesAhead (started (limits 7 0)) }
 {}
 
-/// Worlds of which a stop leaves a misfit: a record that a node has stored, or one that it holds.
+/// In these worlds a stop leaves a misfit: a record that a node has stored, or one that it holds.
 pub fn worlds_that_do_not_survive()
     ensures of_three { SurvivesAhead
         (opened (limits 3 10) (image_of ((certified 1 1 ∷ []) ∷ []))) → ⊥ }

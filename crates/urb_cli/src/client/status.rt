@@ -161,7 +161,7 @@ fn worse(first: u8, second: u8) -> u8
     if first == 0 { second } else { first }
 }
 
-// The address of the node that comes so many nodes after the first one.
+// The address of the node that comes this number of nodes after the first one.
 fn find_node<'a>(asking: StatusOptions<'a>, later: u8) -> NodeAddress<'a>
     requires { later < asking.count }
     ensures { address_of result ≡ address_after (address_of asking.entry.at) later }

@@ -42,7 +42,7 @@ no-misfit : (n : ℕ) (r : Entry) → (Joins n r → ⊥)
 no-misfit n r not (inl e) = some-none r [] e
 no-misfit n r not (inr (tail, may, ahead)) = not (joins n r tail may ahead)
 
--- a group of n nodes, of which the first has stored a record
+-- a group of n nodes, whose first one has stored a record
 abbrev of-one : ℕ → World
 of-one n = opened (limits n 10) (image_of ((pending 1 1 ∷ []) ∷ []))
 

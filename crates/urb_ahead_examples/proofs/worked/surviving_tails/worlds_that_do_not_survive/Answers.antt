@@ -7,7 +7,7 @@ use Rattle.urb_ahead_examples.proofs.worked.surviving_tails.worlds_that_do_not_s
 some-none : {A : Type 0} (x : A) (xs : List A) → x ∷ xs ≡ [] → ⊥
 some-none x xs e = cc
 
--- images of which the first has a certified message that nobody else holds
+-- images: the first has a certified message that nobody else holds
 abbrev misfit : ℕ → List Entry
 misfit p = image_of ((certified 1 1 ∷ []) ∷ []) p
 
