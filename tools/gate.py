@@ -9,7 +9,7 @@ the must-fail edits; the hash of crates/ chooses it. Then `rt ci` runs: every pr
 machine hasn't proved before, the edits, the tests and the program. Then a part of the wrong
 definitions is tried again, with the libraries that it built. The same hash chooses the part. At the
 end the built program is tried as a user would use it (trials/gate). What a step needs and isn't
-installed is left out, with a line.
+installed is left out, with a line. Before the last line stands what each failing step said.
 """
 from __future__ import annotations
 
@@ -35,18 +35,24 @@ COUNTED = re.compile(r"(\d+) passed, (\d+) failed")
 RAN = re.compile(r"Ran (\d+) tests? in")
 FAILED = re.compile(r"FAILED \((.*)\)")
 SKIPPED = re.compile(r"skipped=(\d+)")
+# A line that tells of a failure.
+TROUBLE = re.compile(r"fail|refus|error|panic|traceback|killed|not proved|timed out", re.I)
+# So many of these lines of a failing command are shown again at the end.
+SHOWN_LINES = 40
 
 
 @dataclass
 class Count:
-    """How many things passed, and how many failed."""
+    """How many things passed, how many failed, and what the failing commands said."""
 
     passed: int = 0
     failed: int = 0
+    failures: list[str] = field(default_factory=list)
 
     def add(self, other: Count) -> None:
         self.passed += other.passed
         self.failed += other.failed
+        self.failures += other.failures
 
     def __str__(self) -> str:
         return f"{self.passed} passed, {self.failed} failed"
@@ -73,7 +79,7 @@ def count_of(said: str, status: int) -> Count:
         # a case may fail in several of its parts, and a whole class may be skipped
         count = Count(max(sum(map(int, ran)) - failed - skipped, 0), failed)
     elif counted:
-        count = Count(*map(int, counted[-1]))
+        count = Count(int(counted[-1][0]), int(counted[-1][1]))
     else:
         count = Count(int(status == 0), int(status != 0))
     if status and not count.failed:
@@ -118,6 +124,14 @@ def quick_steps(tree: Tree) -> Iterator[Step]:
         yield Step("unit tests of clients/go", ["go", "test", "./..."], ["go"], "clients/go")
 
 
+def failure_of(name: str, said: str, status: int) -> str:
+    """What the end of the run shows of a step that failed: its last lines that name a failure."""
+    lines = said.splitlines()
+    telling = [line for line in lines if TROUBLE.search(line)] or lines
+    shown = "".join(f"  {line}\n" for line in telling[-SHOWN_LINES:])
+    return f"gate: {name} failed, with status {status}. It said:\n{shown}"
+
+
 def run_step(tree: Tree, step: Step) -> Count:
     """Runs a step, and shows what it says. Gives what it counted."""
     missing = [it for it in step.needs if not shutil.which(it)]
@@ -141,6 +155,8 @@ def run_step(tree: Tree, step: Step) -> Count:
             print(line, end="", flush=True)
             said += line
     count = count_of(said, process.returncode)
+    if count.failed:
+        count.failures.append(failure_of(step.name, said, process.returncode))
     print(f"gate: {step.name}: {count}, {time.monotonic() - begin:.0f} s", flush=True)
     return count
 
@@ -171,7 +187,7 @@ def try_program(tree: Tree) -> Count:
     """Tries the program that `rt ci` built."""
     if not tree.has(PROGRAM):
         print(f"gate: the built program: there is no {PROGRAM}")
-        return Count(0, 1)
+        return Count(0, 1, [f"gate: there is no {PROGRAM}\n"])
     words = [sys.executable, "-m", "trials", PROGRAM, "--gate"]
     return run_step(tree, Step("the built program", words))
 
@@ -195,5 +211,6 @@ def main(words: Sequence[str], tree: Tree = Tree()) -> int:
         total.add(try_program(tree))
     elif not is_quick:
         print("gate: a quick step failed, so the proofs and the trials aren't begun")
+    print(*total.failures, sep="", end="")
     print(total)
     return 1 if total.failed else 0

@@ -57,6 +57,18 @@ class Gates(TreeTest):
         self.assertIn("one: left out, since no-such-command isn't installed", told)
         self.assertTrue(told.endswith("\n1 passed, 0 failed\n"), told)
 
+    def test_the_end_shows_what_a_failing_step_said(self) -> None:
+        steps = [Step("one", telling("fine\nit failed here\nfine", 1)), Step("two", telling("x"))]
+        _, told = self.run_gate({}, steps, "--quick")
+        end = "gate: one failed, with status 1. It said:\n  it failed here\n1 passed, 1 failed\n"
+        self.assertTrue(told.endswith(end), told)
+
+    def test_a_failing_step_that_names_no_failure_shows_its_last_lines(self) -> None:
+        lines = [f"line {number}" for number in range(50)]
+        shown = gate.failure_of("one", "\n".join(lines), 3).splitlines()
+        self.assertEqual(shown[0], "gate: one failed, with status 3. It said:")
+        self.assertEqual(shown[1:], [f"  {line}" for line in lines[-gate.SHOWN_LINES :]])
+
     def test_a_quick_step_that_fails_ends_the_run(self) -> None:
         with mock.patch.object(gate, "prove", side_effect=AssertionError):
             status, told = self.run_gate({}, [Step("bad", telling("x", 1))])

@@ -1,6 +1,7 @@
 """A small redis in this process: one stream and some keys, over a socket, with faults on demand."""
 from __future__ import annotations
 
+import contextlib
 import socket
 import threading
 from typing import BinaryIO, Optional
@@ -47,7 +48,11 @@ class FakeRedis(threading.Thread):
             threading.Thread(target=self.serve, args=(connection,), daemon=True).start()
 
     def serve(self, connection: socket.socket) -> None:
-        """Serves one connection."""
+        """Serves one connection, until its client leaves."""
+        with contextlib.suppress(ConnectionError):
+            self.serve_commands(connection)
+
+    def serve_commands(self, connection: socket.socket) -> None:
         queued: Optional[list[Command]] = None
         watched = self.changes
         with connection, connection.makefile("rb") as source:
