@@ -93,7 +93,7 @@ fn run_session<K: HouseName, R: Wait + Clock>(
     Ok(end)
 }
 
-// Serves one client, and then frees its place. Returns what came of the session.
+// Serves one client, and then frees its place. Returns how the session ended.
 fn serve_client<K: HouseName, R: Wait + Clock>(
     rt: &R,
     visit: Visit<'_>,

@@ -33,7 +33,7 @@ pub(crate) enum Patience {
     Endless,
 }
 
-// What came of a look into the channel: a ticket, or `None` if none was there.
+// What a look into the channel has found: a ticket, or `None` if none was there.
 fn after_look<'q, K: HouseName>(
     jobs: &'q Receiver<Ticket<K>>,
     came: Result<Ticket<K>, TryRecvError>,
@@ -56,7 +56,7 @@ fn ticket_there<'q, K: HouseName, R: Wait>(
     after_look(jobs, jobs.try_recv(rt))
 }
 
-// What came of a wait with an end: a ticket, or `None` if none came in time.
+// What a wait with an end has brought: a ticket, or `None` if none came in time.
 fn after_wait<'q, K: HouseName>(
     jobs: &'q Receiver<Ticket<K>>,
     came: Result<Ticket<K>, RecvTimeoutError>,

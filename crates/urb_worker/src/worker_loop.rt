@@ -132,8 +132,7 @@ struct LoopState {
 
 /// Does the jobs of one node, until its channel closes. For each ticket it does the job, sends the
 /// packets, answers, and rings the node's bell if it has published entries. It holds nothing while
-/// it sends, answers and rings. An answer that can't be sent
-/// is lost.
+/// it sends, answers and rings. An answer that can't be sent is lost.
 pub fn serve<
     K: HouseName,
     L: HubName,

@@ -1,4 +1,4 @@
--- What comes of a job that ran, and of one that did not.
+-- The outcomes of a job that ran, and of one that did not.
 use Rattle.urb_turn.proofs.Common.{Answers, CameOf, IsLedTo, IsSound, Limits, None, NothingNew}
 use Rattle.urb_turn.proofs.Common.{Shows, ShowsNode, Some, [], four, house_of_four, if◌then◌else◌}
 use Rattle.urb_turn.proofs.Common.{is_node, limits, new-kept, new_four, no_view, opened_node, refl}

@@ -1,4 +1,4 @@
--- What comes of a restart and of a status in a new group.
+-- The results of a restart and of a status in a new group.
 use Rattle.urb_turn.proofs.Common.{Answers, CameOf, Ends, Goes, IsLedTo, IsSound, Limits, None}
 use Rattle.urb_turn.proofs.Common.{NothingNew, Option, Shows, ShowsNode, Some, Status, [], ap, four}
 use Rattle.urb_turn.proofs.Common.{house_of_four, if◌then◌else◌, is_node, limits, log, new-kept}
