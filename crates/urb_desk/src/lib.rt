@@ -34,8 +34,8 @@ mod reader_pool;
 mod responses;
 mod stray_turn;
 mod ticket_places;
-mod worker_gone;
 pub mod worked;
+mod worker_gone;
 
 pub use acceptor::{Acceptor, Refusals, accept_clients};
 pub use client_desk::ClientDesk;
