@@ -12,13 +12,13 @@ pub returns-clause-at_the_last_of_seven : goal.returns-clause-at_the_last_of_sev
 returns-clause-at_the_last_of_seven c = λ it is all. absurd (omega (arith, is, all.0))
 
 pub returns-clause-ticks_at_a_single_node : goal.returns-clause-ticks_at_a_single_node
-returns-clause-ticks_at_a_single_node c = λ it is all. absurd (omega (arith, is, all.1.0))
+returns-clause-ticks_at_a_single_node c = λ it is all. absurd (omega (arith, is, all.1))
 
 pub returns-clause-ticks_at_the_last_of_four : goal.returns-clause-ticks_at_the_last_of_four
-returns-clause-ticks_at_the_last_of_four c = λ it is all. absurd (omega (arith, is, all.1.0))
+returns-clause-ticks_at_the_last_of_four c = λ it is all. absurd (omega (arith, is, all.1))
 
 pub returns-clause-ticks_at_a_slower_pace : goal.returns-clause-ticks_at_a_slower_pace
-returns-clause-ticks_at_a_slower_pace c = λ it is all. absurd (omega (arith, is, all.1.1))
+returns-clause-ticks_at_a_slower_pace c = λ it is all. absurd (omega (arith, is, all.2))
 
 pub returns-clause-ticks_at_a_faster_pace : goal.returns-clause-ticks_at_a_faster_pace
-returns-clause-ticks_at_a_faster_pace c = λ it is all. absurd (omega (arith, is, all.1.1))
+returns-clause-ticks_at_a_faster_pace c = λ it is all. absurd (omega (arith, is, all.2))
