@@ -303,8 +303,7 @@ class APublisher(OverAGroup):
         self.group.close()
 
         def come_back() -> None:
-            self.group = SimulatedGroup(self.nodes, ports=ports)
-            self.group.add(*entries)
+            self.group = SimulatedGroup(self.nodes, ports=ports, entries=entries)
 
         threading.Timer(0.3, come_back).start()
         self.assertEqual(publisher.publish(b"two"), 2)
