@@ -5,10 +5,13 @@ pub mod PlacedRecords
 pub mod Doubts
 pub mod StableStorage
 pub mod StoredTogether
+pub mod RecordsAhead
 pub mod StoreAnswers
 pub mod StoredBatches
 pub mod KeptDrafts
+pub mod RetrievedRecords
 pub mod MemoryStores
+pub mod AheadStores
 pub mod Images
 pub mod Fitting
 pub mod internal

@@ -9,6 +9,8 @@ ghost use Rattle.urb_stable.specs.StableStorage.{KeepsTrust, list_in, IsRetrieve
 ghost use Rattle.urb_stable.specs.StableStorage.{IsAllowedFault, StaysShut};
 ghost use Rattle.urb_stable.specs.StoredTogether.{is_misplaced, AreAppended, LeavesNoRecord};
 ghost use Rattle.urb_stable.specs.StoredTogether.{MovesPlace, IsContentsOrAll, LeavesNoMore};
+ghost use Rattle.urb_stable.specs.StoredTogether.{StoresNothing};
+ghost use Rattle.urb_stable.specs.RecordsAhead.{KeepsAhead, SparesAhead, TakesAhead};
 
 use crate::Record;
 use std::alloc::{AllocError, AllocFailed, Allocator};
@@ -120,6 +122,13 @@ pub trait Stable {
     /// What a retrieve may answer.
     ghost answers: { Self → Result (List Entry) Fault → Type 0 };
 
+    /// The records that the storage holds already, after those that it has given out. Most storages
+    /// have none.
+    ghost ahead: { Self → List Entry };
+
+    /// The records that those ahead follow. If none are ahead, it may be any list.
+    ghost base: { Self → List Entry };
+
     /// The position of the next record, from 1.
     fn next(&self) -> u32
         ensures value { result ≡ place self.now }
@@ -156,7 +165,10 @@ pub trait Stable {
         // If the storage has ever returned something other than what was written, it never counts
         // as clean again. A clean storage that was honest stays honest or is shut.
         ensures trust { KeepsTrust (is_clean self.old) (is_honest self.old) (is_clean self.new)
-            (is_honest self.new) (is_shut self.new) result };
+            (is_honest self.new) (is_shut self.new) result }
+        // If records are ahead, only the first of them is stored.
+        ensures ahead { TakesAhead (ahead self.old) (base self.old) (ahead self.new) (base self.new)
+            (is_shut self.new) entry.now result };
 
     /// Appends all these records to the others, the first at this position, or none of them. After
     /// `Place` nothing has changed: the position isn't the next one, a `retrieve` must come first,
@@ -175,9 +187,8 @@ pub trait Stable {
         ensures same { IsTrue (is_misplaced (is_doubtful self.old) (place self.old) pos entries.now)
             → self.new ≡ self.old }
         // An empty list in place is stored by doing nothing.
-        ensures nothing { entries.now ≡ []
-            → is_misplaced (is_doubtful self.old) (place self.old) pos [] ≡ false
-            → (result ≡ Ok tt) × (self.new ≡ self.old) }
+        ensures nothing { entries.now ≡ [] → StoresNothing
+            (is_misplaced (is_doubtful self.old) (place self.old) pos []) self.old result self.new }
         // All records are certain after `Ok`, and none of them after a fault.
         ensures appended { is_honest self.new
             → AreAppended (certain self.old) (certain self.new) entries.now result }
@@ -187,9 +198,8 @@ pub trait Stable {
         ensures moved { MovesPlace (place self.old) (place self.new) (length entries.now) result }
         // A stop, even during this call, leaves what the storage may hold, or its certain records
         // followed by all of these.
-        ensures stop { is_honest self.old
-            → is_clean self.new
-            → leaves_only self.new (IsContentsOrAll entries.now (certain self.old) (doubt self.old)) }
+        ensures stop { is_honest self.old → is_clean self.new → leaves_only self.new
+            (IsContentsOrAll entries.now (certain self.old) (doubt self.old)) }
         ensures rest { is_honest self.new
             → leaves_only self.new (IsContents (certain self.new) (doubt self.new)) }
         // `Device` comes only if the count of failures rose.
@@ -197,10 +207,13 @@ pub trait Stable {
         // If the storage has ever returned something other than what was written, it never counts
         // as clean again. A clean storage that was honest stays honest or is shut.
         ensures trust { KeepsTrust (is_clean self.old) (is_honest self.old) (is_clean self.new)
-            (is_honest self.new) (is_shut self.new) result };
+            (is_honest self.new) (is_shut self.new) result }
+        // If records are ahead, no list of records is stored in their place.
+        ensures ahead { SparesAhead (ahead self.old) (base self.old) (ahead self.new)
+            (base self.new) (is_shut self.new) entries.now result };
 
-    /// Returns all records, which are certain from then on. A failed retrieve changes nothing but
-    /// the count of failures.
+    /// Returns all records, which are certain from then on. Records ahead aren't among them. A failed
+    /// retrieve changes nothing but the count of failures.
     fn retrieve(
         &mut self,
         alloc: Self::Alloc,
@@ -218,9 +231,8 @@ pub trait Stable {
         ensures allowed { IsAllowedFault (is_honest self.old) (is_shut self.old) (is_clean self.new)
             (is_honest self.new) (list_in result) }
         // A stop, even during this call, leaves what the storage may hold.
-        ensures stop { is_honest self.old
-            → is_clean self.new
-            → leaves_only self.new (IsContents (certain self.old) (doubt self.old)) }
+        ensures stop { is_honest self.old → is_clean self.new → leaves_only self.new
+            (IsContents (certain self.old) (doubt self.old)) }
         ensures rest { is_honest self.new
             → leaves_only self.new (IsContents (certain self.new) (doubt self.new)) }
         // `Device` comes only if the count of failures rose.
@@ -234,5 +246,8 @@ pub trait Stable {
         ensures refuses { StaysShut (is_shut self.old) (is_clean self.new) (is_shut self.new)
             (list_in result) }
         ensures lasts { is_clean self.new
-            → LeavesNoMore (leaves_only self.old) (leaves_only self.new) };
+            → LeavesNoMore (leaves_only self.old) (leaves_only self.new) }
+        // The records ahead stay.
+        ensures ahead { KeepsAhead (ahead self.old) (base self.old) (ahead self.new)
+            (base self.new) };
 }

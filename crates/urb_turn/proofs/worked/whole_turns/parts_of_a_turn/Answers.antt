@@ -94,6 +94,7 @@ kept = record {
     alive = λ honest clean. tt;
     shut = λ honest clean. inl tt;
   };
+  ahead = refl;
 }
   where
     false-true : false ≡ true → ⊥

@@ -1,0 +1,375 @@
+//! A store that holds records ahead, over another store.
+ghost use Rattle.std.specs.Prelude.{◌≡◌, ◌<◌, List, MatchBool, OnOk, Option, Some, false, length, slice_get};
+ghost use Rattle.std.specs.Prelude.{true};
+ghost use Rattle.urb_stable.specs.AheadStores.{GivesSame, HoldsAhead, IsSound, LeavesBehind, fresh};
+ghost use Rattle.urb_stable.specs.AheadStores.{ghosts_over, needs_retrieve, next_place};
+ghost use Rattle.urb_stable.specs.Entries.{Entry};
+ghost use Rattle.urb_stable.specs.KeptDrafts.{Keeps, KeepsAll};
+ghost use Rattle.urb_stable.specs.RetrievedRecords.{Gives};
+ghost use Rattle.urb_stable.specs.StableStorage.{IsContents, is_out_of_place, list_in};
+ghost use Rattle.urb_stable.specs.StoredTogether.{is_misplaced};
+ghost use Rattle.urb_stable.specs.declared.stable.StoreFault.TheVariants.{Place};
+ghost use Rattle.urb_stable.specs.internal.AheadCalls.{once_spent, once_taken_ahead};
+
+use crate::record_queue::RecordQueue;
+use crate::{Record, Stable, StoreFault};
+use std::marker::Model;
+use std::snapshot::Snapshot;
+use urb_names::Message;
+
+/// A store over another one, which may hold records ahead. `store_ahead` keeps several records by one
+/// call of the inner store, and so by one sync. After that, each `store` of the first record ahead is
+/// answered `Ok` without a call of the inner store. If another record is to be stored in its place,
+/// the store is spent: it is shut, and only a new opening of the inner store gives records again.
+/// Nothing that was stored is lost.
+#[derive(Drop)]
+pub struct AheadStore<S: Stable> {
+    store: S,
+    queue: RecordQueue<S::Alloc>,
+    // The inner store before it kept the records of the queue. It has no bytes.
+    start: Snapshot<S>,
+    spent: bool,
+    // How often this store has failed since it was spent.
+    failures: u64,
+}
+
+impl<S: Stable> Model for AheadStore<S> {
+    ghost use Rattle.std.specs.Prelude.{◌++◌};
+    ghost use Rattle.urb_stable.specs.AheadStores.{AheadView, IsSound};
+
+    ghost Value = { AheadView S };
+
+    ghost view = { λ a. record {
+      store = a.store;
+      base = S.certain a.start.value ++ a.queue.taken;
+      ahead = a.queue.left;
+      spent = a.spent;
+      failures = a.failures;
+    } };
+
+    ghost invariant = { λ a. IsSound S.Stable (record {
+      store = a.store;
+      base = S.certain a.start.value ++ a.queue.taken;
+      ahead = a.queue.left;
+      spent = a.spent;
+      failures = a.failures;
+    }) };
+}
+
+impl<S: Stable> AheadStore<S> {
+    /// A store over this one, with no records ahead. The allocator is that of the records ahead.
+    pub fn new(alloc: S::Alloc, store: S) -> AheadStore<S>
+        ensures { result ≡ fresh S.Stable store }
+    {
+        let start = Snapshot::of(&store);
+        AheadStore {
+            store,
+            queue: RecordQueue::new(Vec::new(alloc)),
+            start,
+            spent: false,
+            failures: 0,
+        }
+    }
+
+    /// The inner store. It still holds the records ahead.
+    pub fn into_inner(self) -> S
+        ensures inner { result ≡ self.store }
+        // What a stop leaves of it is what a stop leaves of this store, and then all records ahead.
+        ensures left { (certain : List Entry) (doubtful : Option Entry)
+            → (ghosts_over S.Stable).leaves_only self (IsContents certain doubtful)
+            → LeavesBehind S.Stable self (IsContents certain doubtful) }
+    {
+        let AheadStore {
+            store,
+            queue: _,
+            start: _,
+            spent: _,
+            failures: _,
+        } = self;
+        store
+    }
+
+    /// The number of records ahead.
+    pub fn left(&self) -> usize
+        ensures { result ≡ length self.now.ahead }
+    {
+        self.queue.left()
+    }
+
+    /// Keeps these records by one call of the inner store, at its next position. After `Ok` they are
+    /// ahead. `Place` means that nothing has changed: some records are ahead already, a retrieve
+    /// must come first, or the list would get longer than its greatest length. After any other fault
+    /// none are ahead, and a `retrieve` must come first. An empty list changes nothing.
+    pub fn store_ahead(
+        &mut self,
+        entries: Vec<Record<Message<S::Alloc>>, S::Alloc>,
+    ) -> Result<(), StoreFault>
+        // While some are ahead, the call is out of place.
+        ensures blocked { 0 < length self.old.ahead
+            → (result ≡ Err (Place (next_place S.Stable self.old))) × (self.new ≡ self.old) }
+        // Else the inner store keeps all of them, or none. So does a stop, even during this call.
+        ensures kept { length self.old.ahead ≡ 0
+            → KeepsAll S.Stable self.old.store (S.place self.old.store) entries.items result
+            self.new.store }
+        // After Ok they are ahead, and follow the certain records. After a fault none are ahead.
+        ensures ahead { HoldsAhead S.Stable self.old entries.items result self.new }
+        // The certain records and the next position are as before, and nothing is in doubt.
+        ensures same { OnOk result (GivesSame S.Stable self.old self.new) }
+    {
+        if 0 < self.left() {
+            return Err(StoreFault::Place(self.next()));
+        }
+        let start = Snapshot::of(&self.store);
+        let next = self.store.next();
+        match self.store.store_all(next, &entries) {
+            Ok(()) => {
+                self.queue = RecordQueue::new(entries);
+                self.start = start;
+                Ok(())
+            }
+            Err(fault) => Err(fault),
+        }
+    }
+
+    /// Does nothing at run time; it brings the value's invariant into the proof.
+    pub fn recall(&self)
+        ensures { IsSound S.Stable self.now }
+    {
+        let _spent = self.spent;
+    }
+
+    // Whether another record was to be stored in place of the first one ahead.
+    fn is_spent(&self) -> bool
+        ensures { result ≡ self.now.spent }
+    {
+        self.spent
+    }
+
+    // Whether a store at this position is out of place.
+    fn is_out(&self, pos: u32) -> bool
+        ensures { result ≡ is_out_of_place (needs_retrieve S.Stable self.now)
+            (next_place S.Stable self.now) pos }
+    {
+        let next = self.next();
+        self.doubtful() || pos != next || next == u32::MAX
+    }
+
+    // Whether these records, the first at this position, are out of place.
+    fn are_out(&self, pos: u32, entries: &[Record<Message<S::Alloc>>]) -> bool
+        ensures { result ≡ is_misplaced (needs_retrieve S.Stable self.now)
+            (next_place S.Stable self.now) pos entries.now }
+    {
+        let next = self.next();
+        let room = (u32::MAX - next) as usize;
+        self.doubtful() || pos != next || room < entries.len()
+    }
+
+    // Whether the first record ahead is this one.
+    fn is_first(&self, entry: &Record<Message<S::Alloc>>) -> bool
+        ensures { MatchBool result (slice_get self.now.ahead 0 ≡ Some entry.now)
+            (¬ (slice_get self.now.ahead 0 ≡ Some entry.now)) }
+    {
+        self.queue.is_first(entry)
+    }
+
+    // Takes the first record ahead.
+    fn take_first(&mut self)
+        requires some { 0 < length self.old.ahead }
+        requires unspent { self.old.spent ≡ false }
+        ensures { self.new ≡ once_taken_ahead self.old }
+    {
+        self.queue.take_first();
+    }
+
+    // Gives no more records: another one was to be stored in place of the first one ahead.
+    fn spend(&mut self)
+        requires some { 0 < length self.old.ahead }
+        requires unspent { self.old.spent ≡ false }
+        ensures { self.new ≡ once_spent self.old }
+    {
+        self.spent = true;
+        self.failures += 1;
+    }
+
+    // Stores a record if none are ahead.
+    fn store_inside(
+        &mut self,
+        pos: u32,
+        entry: &Record<Message<S::Alloc>>,
+    ) -> Result<(), StoreFault>
+        requires { length self.old.ahead ≡ 0 }
+        ensures { Keeps (ghosts_over S.Stable) self.old
+            (record { node = 0; pos = pos; entry = entry.now }) result self.new }
+    {
+        // For its clause about the next position of an honest store.
+        let _next = self.store.next();
+        self.store.store(pos, entry)
+    }
+
+    // Stores a record if some are ahead.
+    fn store_first(&mut self, pos: u32, entry: &Record<Message<S::Alloc>>) -> Result<(), StoreFault>
+        requires { 0 < length self.old.ahead }
+        ensures { Keeps (ghosts_over S.Stable) self.old
+            (record { node = 0; pos = pos; entry = entry.now }) result self.new }
+    {
+        self.recall();
+        let next = self.next();
+        if self.is_out(pos) {
+            return Err(StoreFault::Place(next));
+        }
+        if self.is_first(entry) {
+            self.take_first();
+            return Ok(());
+        }
+        self.spend();
+        Err(StoreFault::Device)
+    }
+
+    // Stores several records if none are ahead.
+    fn store_all_inside(
+        &mut self,
+        pos: u32,
+        entries: &[Record<Message<S::Alloc>>],
+    ) -> Result<(), StoreFault>
+        requires { length self.old.ahead ≡ 0 }
+        ensures { KeepsAll (ghosts_over S.Stable) self.old pos entries.now result self.new }
+    {
+        // For its clause about the next position of an honest store.
+        let _next = self.store.next();
+        self.store.store_all(pos, entries)
+    }
+
+    // Stores no records together if some are ahead.
+    fn refuse_all(
+        &mut self,
+        pos: u32,
+        entries: &[Record<Message<S::Alloc>>],
+    ) -> Result<(), StoreFault>
+        requires { 0 < length self.old.ahead }
+        ensures { KeepsAll (ghosts_over S.Stable) self.old pos entries.now result self.new }
+    {
+        self.recall();
+        let next = self.next();
+        if self.are_out(pos, entries) {
+            return Err(StoreFault::Place(next));
+        }
+        if entries.is_empty() {
+            return Ok(());
+        }
+        self.spend();
+        Err(StoreFault::Device)
+    }
+
+    // Retrieves the records if none are ahead.
+    fn retrieve_inside(
+        &mut self,
+        alloc: S::Alloc,
+    ) -> Result<Vec<Record<Message<S::Alloc>>, S::Alloc>, StoreFault>
+        requires { length self.old.ahead ≡ 0 }
+        ensures { Gives (ghosts_over S.Stable) self.old (list_in result) self.new }
+    {
+        self.store.retrieve(alloc)
+    }
+
+    // Retrieves the records before those ahead.
+    fn retrieve_less(
+        &mut self,
+        alloc: S::Alloc,
+    ) -> Result<Vec<Record<Message<S::Alloc>>, S::Alloc>, StoreFault>
+        requires some { 0 < length self.old.ahead }
+        requires unspent { self.old.spent ≡ false }
+        ensures { Gives (ghosts_over S.Stable) self.old (list_in result) self.new }
+    {
+        let left = self.queue.left();
+        let mut records = match self.store.retrieve(alloc) {
+            Ok(whole) => whole,
+            Err(fault) => return Err(fault),
+        };
+        records.truncate(records.len().saturating_sub(left));
+        Ok(records)
+    }
+
+    // Retrieves no records once the store is spent.
+    fn refuse_retrieve(&mut self) -> Result<Vec<Record<Message<S::Alloc>>, S::Alloc>, StoreFault>
+        requires some { 0 < length self.old.ahead }
+        requires spent { self.old.spent ≡ true }
+        ensures { Gives (ghosts_over S.Stable) self.old (list_in result) self.new }
+    {
+        if self.failures == u64::MAX {
+            return Err(StoreFault::NoMemory);
+        }
+        self.failures += 1;
+        Err(StoreFault::Device)
+    }
+}
+
+impl<S: Stable> Stable for AheadStore<S> {
+    type Alloc = S::Alloc;
+
+    ghost certain = { λ s. (ghosts_over S.Stable).certain s };
+
+    ghost doubt = { λ s. (ghosts_over S.Stable).doubt s };
+
+    ghost is_doubtful = { λ s. (ghosts_over S.Stable).is_doubtful s };
+
+    ghost place = { λ s. (ghosts_over S.Stable).place s };
+
+    ghost failures = { λ s. (ghosts_over S.Stable).failures s };
+
+    ghost is_clean = { λ s. (ghosts_over S.Stable).is_clean s };
+
+    ghost is_honest = { λ s. (ghosts_over S.Stable).is_honest s };
+
+    ghost is_shut = { λ s. (ghosts_over S.Stable).is_shut s };
+
+    ghost leaves_only = { λ s. (ghosts_over S.Stable).leaves_only s };
+
+    ghost stores = { λ s. (ghosts_over S.Stable).stores s };
+
+    ghost answers = { λ s. (ghosts_over S.Stable).answers s };
+
+    ghost ahead = { λ s. (ghosts_over S.Stable).ahead s };
+
+    ghost base = { λ s. (ghosts_over S.Stable).base s };
+
+    fn next(&self) -> u32 {
+        (self.store.next() as usize).saturating_sub(self.queue.left()) as u32
+    }
+
+    fn doubtful(&self) -> bool {
+        self.spent || self.store.doubtful()
+    }
+
+    fn store(&mut self, pos: u32, entry: &Record<Message<S::Alloc>>) -> Result<(), StoreFault> {
+        if self.left() == 0 {
+            self.store_inside(pos, entry)
+        } else {
+            self.store_first(pos, entry)
+        }
+    }
+
+    fn store_all(
+        &mut self,
+        pos: u32,
+        entries: &[Record<Message<S::Alloc>>],
+    ) -> Result<(), StoreFault> {
+        if self.left() == 0 {
+            self.store_all_inside(pos, entries)
+        } else {
+            self.refuse_all(pos, entries)
+        }
+    }
+
+    fn retrieve(
+        &mut self,
+        alloc: S::Alloc,
+    ) -> Result<Vec<Record<Message<S::Alloc>>, S::Alloc>, StoreFault> {
+        if self.left() == 0 {
+            self.retrieve_inside(alloc)
+        } else if self.is_spent() {
+            self.refuse_retrieve()
+        } else {
+            self.retrieve_less(alloc)
+        }
+    }
+}
