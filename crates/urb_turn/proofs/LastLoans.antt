@@ -122,6 +122,14 @@ finishes_on opened m ends old new turn done node runs begun finishes are all =
     begun.3 (done.events - turn.events) done.reply done.status done.settling begun.5 begun.6
     finishes) (finished_end old new turn.loan done.ran done.loans are) all
 
+-- a look at the House, which changes nothing, by the worker of node m
+pub looked_on : (m : ℕ) (ends : LoanEnds) (old new : HouseView) (end : Option (List Event))
+    → 0 < m → new ≡ old → IfSome end (λ e. e ≡ old.past) → AllRest ends old.past
+    → AllRest (slice_set ends (m - 1) end) new.past
+looked_on m ends old new end node same is all =
+    subst (λ (h : HouseView). AllRest (slice_set ends (m - 1) end) h.past) (sym same)
+    (loan_over m ends old.past old.past end node (λ n other. rests-none n old.past) is all)
+
 -- ---- what a worker knows
 
 rests_if : (n : ℕ) (lent : List Event) (o : Option (List Event)) (m : List Event) → o ≡ Some m

@@ -14,14 +14,14 @@ use crate::counting::counted_house::CountedHouse;
 use crate::counting::last_loans::LastLoans;
 use crate::counting::tally::{HubName, Tally};
 use crate::loans::copy_moment;
-use crate::{Finished, Job};
+use crate::{Finished, Job, StableAhead};
 use std::alloc::Global;
 use std::sync::ledger::Blank;
 use std::sync::{Mutex, MutexGuard, Wait};
 use urb_feed::Feed;
-use urb_names::{NoMemory, NodeId, Packet};
+use urb_names::{Message, NoMemory, NodeId, Packet};
 use urb_show::{House, HouseName};
-use urb_stable::Stable;
+use urb_stable::{Record, Stable};
 
 /// A worker calls it before its store keeps a draft, and holds no lock meanwhile. Tests use it to
 /// delay a store.
@@ -129,6 +129,41 @@ impl<K: HouseName, L: HubName> Hub<K, L> {
         let finished = tallied.finish(rt, alloc, node, turn, &mut tally);
         MutexGuard::unlock(tallied);
         (finished, tally)
+    }
+
+    /// Has a node's store hold these records ahead, if the node is ready and they may follow its
+    /// stored ones (`Group::may_follow`). If not, the store isn't asked. The lock is free while the
+    /// store works.
+    ///
+    /// Whatever the store answers, it still matches its node. If the storage failed, the node
+    /// doesn't know of it: its next turn that drafts a record takes it down.
+    pub fn keep_ahead<S: StableAhead<Alloc = Global>, G: Gate, R: Wait>(
+        &self,
+        rt: &R,
+        node: NodeId,
+        records: Vec<Record<Message>>,
+        store: &mut S,
+        gate: &G,
+        tally: Tally<K, L>,
+    ) -> Tally<K, L>
+        // It counts no event.
+        ensures events { result.events ≡ tally.events }
+        // If the store matched the node at the end of the last loan, it matches the node after all
+        // events until this one.
+        ensures keeps { (start : World) → Shows K.origin start
+            → IsStoreSince S.Stable start tally.last node store.old
+            → IsStoreSince S.Stable start result.last node store.new }
+    {
+        let mut tally = tally;
+        let mut tallied = self.tallied.lock(rt);
+        let may_hold = tallied.look(node, &records, &mut tally);
+        MutexGuard::unlock(tallied);
+        if !may_hold {
+            return tally;
+        }
+        gate.before_store(node);
+        let _answer = store.store_ahead(records);
+        tally
     }
 
     /// A feed of a node, of the group as it is now. It takes the lock once.

@@ -7,6 +7,9 @@
 //! time. Each worker has a `Tally`: the number of its events, and when it gave the House back last.
 //! Once all tallies are returned, the Hub returns a House that has counted exactly these events.
 //!
+//! A store may hold several records ahead of their jobs: `Hub::keep_ahead` has it keep them by one
+//! call, if they may follow those that the node has stored.
+//!
 //! How the calls go together, in a function that is generic over the names of the House and of the
 //! Hub, `K` and `L`:
 //!
@@ -30,6 +33,7 @@ mod job;
 pub mod laws;
 mod loans;
 mod settling;
+mod stable_ahead;
 mod turn;
 mod turn_stages;
 pub mod worked;
@@ -41,4 +45,5 @@ pub use hub::{Gate, Hub, OpenGate};
 pub use job::Job;
 pub use loans::copy_moment;
 pub use settling::{Settling, Unsettled};
+pub use stable_ahead::StableAhead;
 pub use turn::{Finished, Turn};

@@ -228,6 +228,7 @@ matches = record {
     };
     known = λ clean. inl tt;
   };
+  tail = λ clean. inl refl;
 }
 
 pub returns-clause-a_pair_that_a_stop_leaves_of_another : goal.returns-clause-a_pair_that_a_stop_leaves_of_another
