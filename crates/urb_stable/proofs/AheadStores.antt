@@ -3,7 +3,8 @@
 -- the records before those ahead (`gives-less`), or the fault of the inner store (`fails-less`).
 use Rattle.urb_stable.proofs.Common.{Bool, Entry, Err, IsContents, List, None, Ok, Option, Result, []}
 use Rattle.urb_stable.proofs.Common.{ap, arith, false, inl, inr, length, length-append, refl, subst}
-use Rattle.urb_stable.proofs.Common.{sym, take, true, ℕ, ◌++◌, ◌+◌, ◌-◌, ◌<◌, ◌∙◌, ◌∷◌, ◌≡◌, ◌⊎◌}
+use Rattle.urb_stable.proofs.Common.{sym, take, true, ℕ, ◌++◌, ◌+◌, ◌-◌, ◌<◌, ◌||◌, ◌∙◌, ◌∷◌, ◌≡◌}
+use Rattle.urb_stable.proofs.Common.{◌⊎◌}
 use Rattle.std.proofs.Math.Seq.{take-append_seam}
 use Rattle.urb_stable.specs.AheadStores.{AheadView, IsSound, LeavesLess, ghosts_over}
 use Rattle.urb_stable.specs.RetrievedRecords.{Gives}
@@ -13,11 +14,12 @@ use Rattle.urb_stable.specs.declared.stable.Stable.{Ghosts}
 use Rattle.urb_stable.specs.declared.stable.StoreFault.{StoreFault}
 use Rattle.urb_stable.specs.declared.stable.StoreFault.TheVariants as fault
 
-clash : (b : Bool) → b ≡ false → b ≡ true → ⊥
+-- a truth value isn't both
+pub clash : (b : Bool) → b ≡ false → b ≡ true → ⊥
 clash b is_false is_true = cc
 
 -- the failures of this store come on top of those of its inner store
-more_failures : {X : Type 0} (old new more : ℕ) (answer : Result X StoreFault)
+pub more_failures : {X : Type 0} (old new more : ℕ) (answer : Result X StoreFault)
     → CountsFailures old new answer → CountsFailures (old + more) (new + more) answer
 more_failures old new more answer k =
     record {
@@ -83,7 +85,7 @@ unspent_shut was_shut is_clean is_shut (Err e) k (inr never) clean = absurd (cla
 -- a stop leaves no more of the store if it leaves no more of the inner store
 less_lasts : (before after : (List Entry → Type 0) → Type 0) (base ahead : List Entry)
     → LeavesNoMore before after
-    → LeavesNoMore (LeavesLess before base ahead) (LeavesLess after base ahead)
+    → LeavesNoMore (LeavesLess before false base ahead) (LeavesLess after false base ahead)
 less_lasts before after base ahead lasts =
     record {
       contents = λ certain doubt leaves.
@@ -99,7 +101,7 @@ less_lasts before after base ahead lasts =
     }
 
 -- the base is what storage without a doubtful record may hold
-base_held : (base : List Entry) (doubt : Option Entry) → doubt ≡ None → IsContents base doubt base
+pub base_held : (base : List Entry) (doubt : Option Entry) → doubt ≡ None → IsContents base doubt base
 base_held base doubt none = rw none refl
 
 -- what storage without a doubtful record holds is its certain records
@@ -116,17 +118,19 @@ front base ahead records all =
     rw (size, all) (take-append_seam base ahead)
 
 module _ {S A : Type 0} (g : Ghosts S A) where
-  abbrev seen : S → (base ahead : List Entry) → Bool → ℕ → AheadView S
-  seen store base ahead spent failures = record {
+  abbrev pub seen : (store start : S) (base ahead : List Entry) → Bool → Bool → ℕ → AheadView S
+  seen store start base ahead failing spent failures = record {
     store = store;
+    start = start;
     base = base;
     ahead = ahead;
+    failing = failing;
     spent = spent;
     failures = failures;
   }
 
   -- what a stop leaves, said of equal certain records
-  leaves_same : (store : S) (certain same : List Entry) (doubt : Option Entry) → certain ≡ same
+  pub leaves_same : (store : S) (certain same : List Entry) (doubt : Option Entry) → certain ≡ same
       → doubt ≡ None → g.leaves_only store (IsContents certain doubt)
       → g.leaves_only store (IsContents same None)
   leaves_same store certain same doubt e none leaves =
@@ -134,13 +138,13 @@ module _ {S A : Type 0} (g : Ghosts S A) where
       (subst (λ (c : List Entry). g.leaves_only store (IsContents c doubt)) e leaves)
 
   -- no records are ahead
-  pub gives-inside : (store new : S) (base ahead : List Entry) (spent : Bool) (failures : ℕ)
+  pub gives-inside : (store new start : S) (base ahead : List Entry) (failing spent : Bool) (failures : ℕ)
       (answer : Result (List Entry) StoreFault)
-      → IsSound g (seen store base ahead spent failures) → length ahead ≡ 0
+      → IsSound g (seen store start base ahead failing spent failures) → length ahead ≡ 0
       → Gives g store answer new
-      → Gives (ghosts_over g) (seen store base ahead spent failures) answer
-      (seen new base ahead spent failures)
-  gives-inside store new base [] false failures answer sound none k =
+      → Gives (ghosts_over g) (seen store start base ahead failing spent failures) answer
+      (seen new start base ahead failing spent failures)
+  gives-inside store new start base [] false false failures answer sound none k =
       record {
         answers = k.answers;
         retrieved = λ honest. k.retrieved honest.0;
@@ -154,36 +158,43 @@ module _ {S A : Type 0} (g : Ghosts S A) where
         lasts = λ clean. less_lasts _ _ base [] (k.lasts clean);
         ahead = record { ahead = refl; base = refl };
       }
-  gives-inside store new base [] true failures answer sound none k =
+  gives-inside store new start base [] true spent failures answer sound none k =
+      absurd (clash true (sound.failing refl) refl)
+  gives-inside store new start base [] false true failures answer sound none k =
       absurd (clash true (sound.spent refl) refl)
-  gives-inside store new base (head ∷ tail) spent failures answer sound none k =
+  gives-inside store new start base (head ∷ tail) failing spent failures answer sound none k =
       absurd (omega arith)
 
   -- some records are ahead, and the inner store gives its records
-  pub gives-less : (store new : S) (base ahead : List Entry) (spent : Bool) (failures : ℕ)
+  pub gives-less : (store new start : S) (base ahead : List Entry) (failing spent : Bool) (failures : ℕ)
       (records : List Entry)
-      → IsSound g (seen store base ahead spent failures) → 0 < length ahead → spent ≡ false
+      → IsSound g (seen store start base ahead failing spent failures) → 0 < length ahead
+      → (failing || spent) ≡ false
       → Gives g store (Ok records) new
-      → Gives (ghosts_over g) (seen store base ahead spent failures)
-      (Ok (take (length records - length ahead) records)) (seen new base ahead spent failures)
-  gives-less store new base [] spent failures records sound some unspent k = absurd (omega arith)
-  gives-less store new base (head ∷ tail) true failures records sound some unspent k =
-      absurd (clash true unspent refl)
-  gives-less store new base (head ∷ tail) false failures records sound some unspent k =
-      let settled = sound.settled some in
+      → Gives (ghosts_over g) (seen store start base ahead failing spent failures)
+      (Ok (take (length records - length ahead) records))
+      (seen new start base ahead failing spent failures)
+  gives-less store new start base [] failing spent failures records sound some held k =
+      absurd (omega arith)
+  gives-less store new start base (head ∷ tail) true spent failures records sound some held k =
+      absurd (clash true held refl)
+  gives-less store new start base (head ∷ tail) false true failures records sound some held k =
+      absurd (clash true held refl)
+  gives-less store new start base (head ∷ tail) false false failures records sound some held k =
+      let sure = sound.sure some in
       let whole : g.is_honest new → records ≡ base ++ head ∷ tail =
-      λ honest. no_doubt _ _ records settled.1 (k.retrieved honest).given.1
-      ∙ sound.follows some (k.trust.honest honest) in
+      λ honest. no_doubt _ _ records sure (k.retrieved honest).given.1
+      ∙ sound.follows some refl (k.trust.honest honest) in
       record {
         answers = (Ok records, k.answers, refl);
         retrieved = λ honest.
             let cut = front base (head ∷ tail) records (whole honest.0) in
-            record { given = (sym cut, rw settled.1 cut); failed = tt };
-        settled = record { clear = k.settled.clear; kept = tt };
+            record { given = (sym cut, rw sure cut); failed = tt };
+        settled = record { clear = (refl, k.settled.clear.1); kept = tt };
         allowed = record { faults = tt; sound = λ was clean. tt };
         stop = λ honest clean. inr (
-          leaves_same new _ _ _ (sound.follows some honest.0) settled.1 (k.stop honest.0 clean),
-          base_held base _ settled.1,
+          leaves_same new _ _ _ (sound.follows some refl honest.0) sure (k.stop honest.0 clean),
+          base_held base _ sure,
         );
         rest = λ honest. inr (
           leaves_same new _ _ _ ((k.retrieved honest.0).given.0 ∙ whole honest.0)
@@ -213,37 +224,41 @@ module _ {S A : Type 0} (g : Ghosts S A) where
       ok-device given e = cc
 
   -- some records are ahead, and the inner store fails
-  pub fails-less : (store new : S) (base ahead : List Entry) (spent : Bool) (failures : ℕ)
+  pub fails-less : (store new start : S) (base ahead : List Entry) (failing spent : Bool) (failures : ℕ)
       (e : StoreFault)
-      → IsSound g (seen store base ahead spent failures) → 0 < length ahead → spent ≡ false
+      → IsSound g (seen store start base ahead failing spent failures) → 0 < length ahead
+      → (failing || spent) ≡ false
       → Gives g store (Err e) new
-      → Gives (ghosts_over g) (seen store base ahead spent failures) (Err e)
-      (seen new base ahead spent failures)
-  fails-less store new base [] spent failures e sound some unspent k = absurd (omega arith)
-  fails-less store new base (head ∷ tail) true failures e sound some unspent k =
-      absurd (clash true unspent refl)
-  fails-less store new base (head ∷ tail) false failures e sound some unspent k =
-      let settled = sound.settled some in
-      let none = k.settled.kept.1 ∙ settled.1 in
+      → Gives (ghosts_over g) (seen store start base ahead failing spent failures) (Err e)
+      (seen new start base ahead failing spent failures)
+  fails-less store new start base [] failing spent failures e sound some held k =
+      absurd (omega arith)
+  fails-less store new start base (head ∷ tail) true spent failures e sound some held k =
+      absurd (clash true held refl)
+  fails-less store new start base (head ∷ tail) false true failures e sound some held k =
+      absurd (clash true held refl)
+  fails-less store new start base (head ∷ tail) false false failures e sound some held k =
+      let sure = sound.sure some in
+      let none = k.settled.kept.1 ∙ sure in
       record {
         answers = (Err e, k.answers, refl);
         retrieved = λ honest. record { given = tt; failed = refl };
         settled = record {
           clear = tt;
           kept = (
-            k.settled.kept.0,
+            refl,
             k.settled.kept.1,
             ap (λ (n : ℕ). n - length (head ∷ tail)) k.settled.kept.2,
           );
         };
         allowed = unspent_allowed _ _ _ _ (Err e) k.allowed;
         stop = λ honest clean. inr (
-          leaves_same new _ _ _ (sound.follows some honest.0) settled.1 (k.stop honest.0 clean),
-          base_held base _ settled.1,
+          leaves_same new _ _ _ (sound.follows some refl honest.0) sure (k.stop honest.0 clean),
+          base_held base _ sure,
         );
         rest = λ honest. inr (
           leaves_same new _ _ _ ((k.retrieved honest.0).failed
-              ∙ sound.follows some (k.trust.honest honest.0)) none (k.rest honest.0),
+              ∙ sound.follows some refl (k.trust.honest honest.0)) none (k.rest honest.0),
           base_held base _ none,
         );
         counts = more_failures _ _ failures (Err e) k.counts;

@@ -8,8 +8,8 @@
 -- `urb_names` come found pairs, rising pairs, and the release of names. Read the rules first:
 -- JoinedRecords, KeptRules, OwnRules, RisingRecords, and the file of `delivers`. Then read the
 -- search: FirstMisfits, the file of `count-images`, and the last four of the list below, on the
--- index. Contents and the file of `whole` are about what one store holds. RecordsAhead and AheadStores
--- are about a store that holds records ahead.
+-- index. Contents and the file of `whole` are about what one store holds. RecordsAhead,
+-- AheadStores and AheadTails are about a store that holds records ahead.
 mod Common
 pub mod AppendedElements
 pub mod ClaimedRecords
@@ -28,3 +28,4 @@ mod EarlierFacts
 mod ReadImages
 mod QueuedRecords
 mod AheadStores
+mod AheadTails

@@ -6,6 +6,7 @@ pub mod Doubts
 pub mod StableStorage
 pub mod StoredTogether
 pub mod RecordsAhead
+pub mod KeptTails
 pub mod StoreAnswers
 pub mod StoredBatches
 pub mod KeptDrafts

@@ -21,14 +21,14 @@ pub record IsTaken (head : Entry) (tail old is new : List Entry) (entry : Entry)
   pub ahead : is ≡ tail
   pub base : new ≡ old ++ head ∷ []
 
--- A store in place is given another record than the first one ahead. It fails, and the storage is
--- shut: it keeps the records ahead, but gives none of them any more.
-pub record IsAnother (head : Entry) (tail old is new : List Entry) (is_shut : Type 0)
-    (entry : Entry) (result : Result (Unit {0}) StoreFault) : Type 0 where
-  pub another : ¬ (entry ≡ head)
+-- A store in place fails, and the storage is shut: it keeps the records ahead, but gives none of
+-- them any more. It was given another record than the first one ahead. Or it has failed already in
+-- the call that was to keep them.
+pub record IsRefused (was old is new : List Entry) (is_shut : Type 0)
+    (result : Result (Unit {0}) StoreFault) : Type 0 where
   pub fails : MatchResult result (λ _. ⊥) (λ e. is_place e ≡ false)
   pub shut : is_shut
-  pub keeps : KeepsAhead (head ∷ tail) old is new
+  pub keeps : KeepsAhead was old is new
 
 -- A store is out of place, as its fault says. It keeps the records ahead.
 pub record IsMissed (was old is new : List Entry) (result : Result (Unit {0}) StoreFault)
@@ -37,13 +37,13 @@ pub record IsMissed (was old is new : List Entry) (result : Result (Unit {0}) St
   pub keeps : KeepsAhead was old is new
 
 -- What storing one record does to those ahead. If none were ahead, none are. Else the store takes
--- the first one, or it is given another one, or it is out of place.
+-- the first one, or it fails and is shut, or it is out of place.
 abbrev pub TakesAhead : (was old is new : List Entry) → Type 0 → Entry
     → Result (Unit {0}) StoreFault → Type 0
 TakesAhead [] old is new is_shut entry result = is ≡ []
 TakesAhead (head ∷ tail) old is new is_shut entry result =
     IsTaken head tail old is new entry result
-    ⊎ (IsAnother head tail old is new is_shut entry result
+    ⊎ (IsRefused (head ∷ tail) old is new is_shut result
     ⊎ IsMissed (head ∷ tail) old is new result)
 
 -- What storing several records together does to those ahead. It keeps them. If some are ahead, and

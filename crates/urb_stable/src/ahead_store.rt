@@ -1,18 +1,18 @@
 //! A store that holds records ahead, over another store.
-ghost use Rattle.std.specs.Prelude.{◌≡◌, ◌<◌, List, MatchBool, OnOk, Option, Some, false, length, slice_get};
-ghost use Rattle.std.specs.Prelude.{true};
-ghost use Rattle.urb_stable.specs.AheadStores.{GivesSame, HoldsAhead, IsSound, LeavesBehind, fresh};
-ghost use Rattle.urb_stable.specs.AheadStores.{ghosts_over, needs_retrieve, next_place};
+ghost use Rattle.std.specs.Prelude.{◌≡◌, ◌<◌, ◌||◌, List, MatchBool, Option, Some, false, length};
+ghost use Rattle.std.specs.Prelude.{None, slice_get, true};
+ghost use Rattle.urb_stable.specs.AheadStores.{IsSound, LeavesInside, fresh, ghosts_over, is_over};
+ghost use Rattle.urb_stable.specs.AheadStores.{needs_retrieve, next_place};
 ghost use Rattle.urb_stable.specs.Entries.{Entry};
 ghost use Rattle.urb_stable.specs.KeptDrafts.{Keeps, KeepsAll};
+ghost use Rattle.urb_stable.specs.KeptTails.{KeepsTail};
 ghost use Rattle.urb_stable.specs.RetrievedRecords.{Gives};
-ghost use Rattle.urb_stable.specs.StableStorage.{IsContents, is_out_of_place, list_in};
+ghost use Rattle.urb_stable.specs.StableStorage.{IsContents, is_out_of_place, is_place, list_in};
 ghost use Rattle.urb_stable.specs.StoredTogether.{is_misplaced};
-ghost use Rattle.urb_stable.specs.declared.stable.StoreFault.TheVariants.{Place};
 ghost use Rattle.urb_stable.specs.internal.AheadCalls.{once_spent, once_taken_ahead};
 
 use crate::record_queue::RecordQueue;
-use crate::{Record, Stable, StoreFault};
+use crate::{Record, Stable, StableAhead, StoreFault};
 use std::marker::Model;
 use std::snapshot::Snapshot;
 use urb_names::Message;
@@ -22,14 +22,20 @@ use urb_names::Message;
 /// answered `Ok` without a call of the inner store. If another record is to be stored in its place,
 /// the store is spent: it is shut, and only a new opening of the inner store gives records again.
 /// Nothing that was stored is lost.
+///
+/// If the inner store fails to keep the records, the store is failing, which nobody needs to know
+/// yet. The next record that is to be stored finds out, and then the store is spent too. A new
+/// opening of the inner store gives all of those records, or none.
 #[derive(Drop)]
 pub struct AheadStore<S: Stable> {
     store: S,
     queue: RecordQueue<S::Alloc>,
     // The inner store before it kept the records of the queue. It has no bytes.
     start: Snapshot<S>,
+    // Whether it failed to keep them.
+    failing: bool,
     spent: bool,
-    // How often this store has failed since it was spent.
+    // How often this store has failed, besides the inner one.
     failures: u64,
 }
 
@@ -41,19 +47,45 @@ impl<S: Stable> Model for AheadStore<S> {
 
     ghost view = { λ a. record {
       store = a.store;
+      start = a.start.value;
       base = S.certain a.start.value ++ a.queue.taken;
       ahead = a.queue.left;
+      failing = a.failing;
       spent = a.spent;
       failures = a.failures;
     } };
 
     ghost invariant = { λ a. IsSound S.Stable (record {
       store = a.store;
+      start = a.start.value;
       base = S.certain a.start.value ++ a.queue.taken;
       ahead = a.queue.left;
+      failing = a.failing;
       spent = a.spent;
       failures = a.failures;
     }) };
+}
+
+// Whether a call was out of place.
+fn is_place(fault: &StoreFault) -> bool
+    ensures { result ≡ is_place fault.now }
+{
+    match fault {
+        StoreFault::Place(_) => true,
+        _ => false,
+    }
+}
+
+// Keeps these records together, at the next position of the store.
+fn keep_all<S: Stable>(
+    store: &mut S,
+    entries: &[Record<Message<S::Alloc>>],
+) -> Result<(), StoreFault>
+    ensures kept { KeepsAll S.Stable store.old (S.place store.old) entries.now result store.new }
+    ensures sure { S.is_doubtful store.old ≡ false → S.doubt store.old ≡ None }
+{
+    let next = store.next();
+    store.store_all(next, entries)
 }
 
 impl<S: Stable> AheadStore<S> {
@@ -66,6 +98,7 @@ impl<S: Stable> AheadStore<S> {
             store,
             queue: RecordQueue::new(Vec::new(alloc)),
             start,
+            failing: false,
             spent: false,
             failures: 0,
         }
@@ -75,14 +108,16 @@ impl<S: Stable> AheadStore<S> {
     pub fn into_inner(self) -> S
         ensures inner { result ≡ self.store }
         // What a stop leaves of it is what a stop leaves of this store, and then all records ahead.
+        // If it failed to keep these, they may be there or not.
         ensures left { (certain : List Entry) (doubtful : Option Entry)
             → (ghosts_over S.Stable).leaves_only self (IsContents certain doubtful)
-            → LeavesBehind S.Stable self (IsContents certain doubtful) }
+            → LeavesInside S.Stable self (IsContents certain doubtful) }
     {
         let AheadStore {
             store,
             queue: _,
             start: _,
+            failing: _,
             spent: _,
             failures: _,
         } = self;
@@ -96,41 +131,6 @@ impl<S: Stable> AheadStore<S> {
         self.queue.left()
     }
 
-    /// Keeps these records by one call of the inner store, at its next position. After `Ok` they are
-    /// ahead. `Place` means that nothing has changed: some records are ahead already, a retrieve
-    /// must come first, or the list would get longer than its greatest length. After any other fault
-    /// none are ahead, and a `retrieve` must come first. An empty list changes nothing.
-    pub fn store_ahead(
-        &mut self,
-        entries: Vec<Record<Message<S::Alloc>>, S::Alloc>,
-    ) -> Result<(), StoreFault>
-        // While some are ahead, the call is out of place.
-        ensures blocked { 0 < length self.old.ahead
-            → (result ≡ Err (Place (next_place S.Stable self.old))) × (self.new ≡ self.old) }
-        // Else the inner store keeps all of them, or none. So does a stop, even during this call.
-        ensures kept { length self.old.ahead ≡ 0
-            → KeepsAll S.Stable self.old.store (S.place self.old.store) entries.items result
-            self.new.store }
-        // After Ok they are ahead, and follow the certain records. After a fault none are ahead.
-        ensures ahead { HoldsAhead S.Stable self.old entries.items result self.new }
-        // The certain records and the next position are as before, and nothing is in doubt.
-        ensures same { OnOk result (GivesSame S.Stable self.old self.new) }
-    {
-        if 0 < self.left() {
-            return Err(StoreFault::Place(self.next()));
-        }
-        let start = Snapshot::of(&self.store);
-        let next = self.store.next();
-        match self.store.store_all(next, &entries) {
-            Ok(()) => {
-                self.queue = RecordQueue::new(entries);
-                self.start = start;
-                Ok(())
-            }
-            Err(fault) => Err(fault),
-        }
-    }
-
     /// Does nothing at run time; it brings the value's invariant into the proof.
     pub fn recall(&self)
         ensures { IsSound S.Stable self.now }
@@ -138,11 +138,42 @@ impl<S: Stable> AheadStore<S> {
         let _spent = self.spent;
     }
 
-    // Whether another record was to be stored in place of the first one ahead.
-    fn is_spent(&self) -> bool
-        ensures { result ≡ self.now.spent }
+    // Whether the inner store failed to keep the records ahead.
+    fn is_failing(&self) -> bool
+        ensures { result ≡ self.now.failing }
     {
-        self.spent
+        self.failing
+    }
+
+    // Whether this store gives none of the records ahead any more.
+    fn is_over(&self) -> bool
+        ensures { result ≡ is_over self.now }
+    {
+        self.failing || self.spent
+    }
+
+    // Keeps these records by one call of the inner store, if none are ahead.
+    fn hold(&mut self, entries: Vec<Record<Message<S::Alloc>>, S::Alloc>) -> Result<(), StoreFault>
+        requires { length self.old.ahead ≡ 0 }
+        ensures { KeepsTail (ghosts_over S.Stable) self.old entries.items result self.new }
+    {
+        let start = Snapshot::of(&self.store);
+        match keep_all(&mut self.store, &entries) {
+            Ok(()) => {
+                self.queue = RecordQueue::new(entries);
+                self.start = start;
+                Ok(())
+            }
+            Err(fault) => {
+                if is_place(&fault) {
+                    return Err(fault);
+                }
+                self.queue = RecordQueue::new(entries);
+                self.start = start;
+                self.failing = true;
+                Err(fault)
+            }
+        }
     }
 
     // Whether a store at this position is out of place.
@@ -172,16 +203,28 @@ impl<S: Stable> AheadStore<S> {
         self.queue.is_first(entry)
     }
 
+    // Holds no more records if some are ahead already.
+    fn refuse_hold(&self) -> Result<(), StoreFault>
+        requires { 0 < length self.now.ahead }
+        ensures { (entries : List Entry)
+            → KeepsTail (ghosts_over S.Stable) self.now entries result self.now }
+    {
+        self.recall();
+        Err(StoreFault::Place(self.next()))
+    }
+
     // Takes the first record ahead.
     fn take_first(&mut self)
         requires some { 0 < length self.old.ahead }
+        requires held { self.old.failing ≡ false }
         requires unspent { self.old.spent ≡ false }
         ensures { self.new ≡ once_taken_ahead self.old }
     {
         self.queue.take_first();
     }
 
-    // Gives no more records: another one was to be stored in place of the first one ahead.
+    // Gives no more records: another one was to be stored in place of the first one ahead. Or the
+    // inner store failed to keep those ahead.
     fn spend(&mut self)
         requires some { 0 < length self.old.ahead }
         requires unspent { self.old.spent ≡ false }
@@ -206,9 +249,30 @@ impl<S: Stable> AheadStore<S> {
         self.store.store(pos, entry)
     }
 
+    // Stores no record if the inner store failed to keep those ahead.
+    fn refuse_store(
+        &mut self,
+        pos: u32,
+        entry: &Record<Message<S::Alloc>>,
+    ) -> Result<(), StoreFault>
+        requires some { 0 < length self.old.ahead }
+        requires failing { self.old.failing ≡ true }
+        ensures { Keeps (ghosts_over S.Stable) self.old
+            (record { node = 0; pos = pos; entry = entry.now }) result self.new }
+    {
+        self.recall();
+        let next = self.next();
+        if self.is_out(pos) {
+            return Err(StoreFault::Place(next));
+        }
+        self.spend();
+        Err(StoreFault::Device)
+    }
+
     // Stores a record if some are ahead.
     fn store_first(&mut self, pos: u32, entry: &Record<Message<S::Alloc>>) -> Result<(), StoreFault>
-        requires { 0 < length self.old.ahead }
+        requires some { 0 < length self.old.ahead }
+        requires held { self.old.failing ≡ false }
         ensures { Keeps (ghosts_over S.Stable) self.old
             (record { node = 0; pos = pos; entry = entry.now }) result self.new }
     {
@@ -277,7 +341,7 @@ impl<S: Stable> AheadStore<S> {
         alloc: S::Alloc,
     ) -> Result<Vec<Record<Message<S::Alloc>>, S::Alloc>, StoreFault>
         requires some { 0 < length self.old.ahead }
-        requires unspent { self.old.spent ≡ false }
+        requires held { is_over self.old ≡ false }
         ensures { Gives (ghosts_over S.Stable) self.old (list_in result) self.new }
     {
         let left = self.queue.left();
@@ -289,13 +353,13 @@ impl<S: Stable> AheadStore<S> {
         Ok(records)
     }
 
-    // Retrieves no records once the store is spent.
+    // Retrieves no records once the store is failing or spent.
     fn refuse_retrieve(&mut self) -> Result<Vec<Record<Message<S::Alloc>>, S::Alloc>, StoreFault>
         requires some { 0 < length self.old.ahead }
-        requires spent { self.old.spent ≡ true }
+        requires over { is_over self.old ≡ true }
         ensures { Gives (ghosts_over S.Stable) self.old (list_in result) self.new }
     {
-        if self.failures == u64::MAX {
+        if u64::MAX - 1 <= self.failures {
             return Err(StoreFault::NoMemory);
         }
         self.failures += 1;
@@ -333,16 +397,25 @@ impl<S: Stable> Stable for AheadStore<S> {
     ghost base = { λ s. (ghosts_over S.Stable).base s };
 
     fn next(&self) -> u32 {
+        if self.failing {
+            return self.store.next();
+        }
         (self.store.next() as usize).saturating_sub(self.queue.left()) as u32
     }
 
     fn doubtful(&self) -> bool {
-        self.spent || self.store.doubtful()
+        if self.left() == 0 {
+            self.store.doubtful()
+        } else {
+            self.spent
+        }
     }
 
     fn store(&mut self, pos: u32, entry: &Record<Message<S::Alloc>>) -> Result<(), StoreFault> {
         if self.left() == 0 {
             self.store_inside(pos, entry)
+        } else if self.is_failing() {
+            self.refuse_store(pos, entry)
         } else {
             self.store_first(pos, entry)
         }
@@ -366,10 +439,26 @@ impl<S: Stable> Stable for AheadStore<S> {
     ) -> Result<Vec<Record<Message<S::Alloc>>, S::Alloc>, StoreFault> {
         if self.left() == 0 {
             self.retrieve_inside(alloc)
-        } else if self.is_spent() {
+        } else if self.is_over() {
             self.refuse_retrieve()
         } else {
             self.retrieve_less(alloc)
+        }
+    }
+}
+
+impl<S: Stable> StableAhead for AheadStore<S> {
+    fn store_ahead(
+        &mut self,
+        records: Vec<Record<Message<S::Alloc>>, S::Alloc>,
+    ) -> Result<(), StoreFault>
+        // The promises of every store that holds records ahead.
+        ensures { KeepsTail (ghosts_over S.Stable) self.old records.items result self.new }
+    {
+        if self.left() == 0 {
+            self.hold(records)
+        } else {
+            self.refuse_hold()
         }
     }
 }

@@ -49,6 +49,7 @@ mod receipt;
 mod record;
 mod record_queue;
 mod stable;
+mod stable_ahead;
 mod stored_batch;
 
 pub use ahead_store::AheadStore;
@@ -60,4 +61,5 @@ pub use memory::{Failure, MemStable};
 pub use receipt::Receipt;
 pub use record::{Record, recall_records};
 pub use stable::{Stable, StoreFault};
+pub use stable_ahead::StableAhead;
 pub use stored_batch::{StoredBatch, store_ahead};

@@ -1,5 +1,5 @@
 //! Stable storage: the contract of every store.
-ghost use Rattle.std.specs.Prelude.{◌≡◌, ◌+◌, List, [], ℕ, Bool, false, Option, Result, Ok, length};
+ghost use Rattle.std.specs.Prelude.{◌≡◌, ◌+◌, List, [], ℕ, Bool, false, Option, None, Result, Ok, length};
 ghost use Rattle.std.specs.Prelude.{IsTrue};
 ghost use Rattle.urb_stable.specs.Entries.{Entry};
 ghost use Rattle.urb_stable.specs.declared.stable.StoreFault.{StoreFault as Fault};
@@ -132,7 +132,9 @@ pub trait Stable {
     /// The position of the next record, from 1.
     fn next(&self) -> u32
         ensures value { result ≡ place self.now }
-        ensures counted { is_honest self.now → result ≡ length (certain self.now) + 1 };
+        ensures counted { is_honest self.now → result ≡ length (certain self.now) + 1 }
+        // A record is in doubt only if a retrieve must come first.
+        ensures sure { is_doubtful self.now ≡ false → doubt self.now ≡ None };
 
     /// Whether a record may follow the certain ones, so that nothing more is stored before a
     /// `retrieve`.

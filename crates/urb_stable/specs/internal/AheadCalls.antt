@@ -10,6 +10,6 @@ once_taken_ahead s = record s {
   ahead = (moved_on s.base s.ahead).left;
 }
 
--- the store once another record was stored in place of the first one ahead
+-- the store once it gives no more records, after one failure more
 abbrev pub once_spent : {S : Type 0} → AheadView S → AheadView S
 once_spent s = record s { spent = true; failures = s.failures + 1 }

@@ -143,12 +143,17 @@ fn first_wrong<A: Allocator + Copy>(inner: MemStable<A>, calm: A, steps: &[Step]
     wrong
 }
 
-// Whether the steps over a new store all get their expected answers.
-fn take_steps(alloc: Global, steps: &[Step]) -> Result<(), Fail> {
-    match first_wrong(MemStable::new(alloc), alloc, steps) {
+// Whether the steps over this store all get their expected answers.
+fn take_steps_over(inner: MemStable, alloc: Global, steps: &[Step]) -> Result<(), Fail> {
+    match first_wrong(inner, alloc, steps) {
         Some(index) => Err(Fail::new(format_args!("step {index}, from 0"))),
         None => Ok(()),
     }
+}
+
+// Whether the steps over a new store all get their expected answers.
+fn take_steps(alloc: Global, steps: &[Step]) -> Result<(), Fail> {
+    take_steps_over(MemStable::new(alloc), alloc, steps)
 }
 
 #[test]
@@ -268,44 +273,63 @@ fn a_stop_leaves_the_records_ahead(rt: HostRuntime) -> Result<(), Fail> {
     take_steps(rt.alloc(), &steps)
 }
 
-#[test]
-fn a_failed_call_keeps_none_ahead(rt: HostRuntime) -> Result<(), Fail> {
-    let steps = [
-        Step::Keep(&[FIRST, SECOND], Err(StoreFault::Device)),
-        Step::Left(0),
-        Step::Doubtful(true),
-        Step::Next(1),
-        Step::Keep(&[FIRST], Err(StoreFault::Place(1))),
-        Step::Retrieve(&[]),
-        Step::Keep(&[FIRST, SECOND], Ok(())),
-        Step::Store(1, FIRST, Ok(())),
-        Step::Retrieve(&[FIRST]),
-    ];
-    let mut inner = MemStable::new(rt.alloc());
+// The same over a store whose first call fails.
+fn take_steps_failing(alloc: Global, steps: &[Step]) -> Result<(), Fail> {
+    let mut inner = MemStable::new(alloc);
     inner.arm(Failure::New);
-    match first_wrong(inner, rt.alloc(), &steps) {
-        Some(index) => Err(Fail::new(format_args!("step {index}, from 0"))),
-        None => Ok(()),
-    }
+    take_steps_over(inner, alloc, steps)
 }
 
-// Keeps two records ahead and gives out the first. If a growth of the store is refused, none are
-// ahead, and they are on the next try. Returns whether it was refused, or `None` if that isn't so.
+#[test]
+fn a_failure_stays_hidden_until_the_next_store(rt: HostRuntime) -> Result<(), Fail> {
+    let steps = [
+        Step::Keep(&[FIRST, SECOND], Err(StoreFault::Device)),
+        Step::Doubtful(false),
+        Step::Next(1),
+        Step::Keep(&[FIRST], Err(StoreFault::Place(1))),
+        Step::Refuse(StoreFault::Device),
+        Step::Store(1, FIRST, Err(StoreFault::Device)),
+        Step::Doubtful(true),
+        Step::Refuse(StoreFault::Device),
+        Step::Stop,
+        Step::Retrieve(&[]),
+    ];
+    take_steps_failing(rt.alloc(), &steps)
+}
+
+#[test]
+fn a_failure_ends_the_next_store_of_several_records(rt: HostRuntime) -> Result<(), Fail> {
+    let steps = [
+        Step::Keep(&[FIRST], Err(StoreFault::Device)),
+        Step::StoreAll(1, &[], Ok(())),
+        Step::StoreAll(1, &[SECOND, THIRD], Err(StoreFault::Device)),
+        Step::Refuse(StoreFault::Device),
+        Step::Stop,
+        Step::Retrieve(&[]),
+    ];
+    take_steps_failing(rt.alloc(), &steps)
+}
+
+// Keeps two records ahead and gives out the first. If a growth of the store is refused, the next
+// store fails, and a new store keeps them ahead on the next try. Returns whether it was refused, or
+// `None` if that isn't so.
 fn is_ahead_late<A: Allocator + Copy>(heap: A, calm: A) -> Option<bool> {
     let mut store = AheadStore::new(calm, MemStable::new(heap));
     let entries = image(calm, &[FIRST, SECOND], b"")?;
     let answer = store.store_ahead(entries);
-    let retry = [
-        Step::Left(0),
-        Step::Doubtful(true),
-        Step::Retrieve(&[]),
-        Step::Keep(&[FIRST, SECOND], Ok(())),
+    let failing = [
+        Step::Left(2),
+        Step::Doubtful(false),
+        Step::Store(1, FIRST, Err(StoreFault::Device)),
+        Step::Refuse(StoreFault::Device),
     ];
-    let is_sound = match answer {
-        Ok(()) => true,
-        Err(StoreFault::NoMemory) => are_right(&mut store, calm, &retry),
-        Err(_) => false,
-    };
+    let retry = [Step::Retrieve(&[]), Step::Keep(&[FIRST, SECOND], Ok(()))];
+    let mut is_sound = answer == Ok(()) || answer == Err(StoreFault::NoMemory);
+    if answer.is_err() {
+        let has_failed = are_right(&mut store, calm, &failing);
+        store = AheadStore::new(calm, store.into_inner());
+        is_sound = is_sound && has_failed && are_right(&mut store, calm, &retry);
+    }
     let rest = [
         Step::Left(2),
         Step::Store(1, FIRST, Ok(())),
@@ -357,7 +381,7 @@ fn growths(alloc: Global) -> u64 {
 }
 
 #[test]
-fn each_growth_refused_keeps_none_ahead(rt: HostRuntime) {
+fn each_growth_refused_fails_the_next_store(rt: HostRuntime) {
     assert!(rt; 1 < growths(rt.alloc()));
 }
 

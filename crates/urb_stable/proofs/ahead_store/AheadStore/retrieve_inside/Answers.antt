@@ -8,8 +8,9 @@ returns g c =
     let it = c.self.inside in
     let none : length it.queue.left ≡ 0 =
     subst (λ (s : AheadView _). length s.ahead ≡ 0) (sym c.self.view_is) c.requires in
-    rw (← c.self.view_is) (gives-inside g.S.Stable it.store c.retrieve.new.self
-    (g.S.Stable.certain it.start.value ++ it.queue.taken) it.queue.left it.spent it.failures _
+    rw (← c.self.view_is) (gives-inside g.S.Stable it.store c.retrieve.new.self it.start.value
+    (g.S.Stable.certain it.start.value ++ it.queue.taken) it.queue.left it.failing it.spent
+    it.failures _
     c.self.invariant none (record {
       answers = c.retrieve.ensures.answers;
       retrieved = c.retrieve.ensures.retrieved;
