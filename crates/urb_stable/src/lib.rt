@@ -29,6 +29,7 @@
 //! armed to fail. Nothing here removes or changes a stored record.
 #![tactic(auto)]
 
+mod ahead_store;
 mod doubt;
 mod draft;
 mod earlier_records;
@@ -41,6 +42,7 @@ mod record;
 mod stable;
 mod stored_batch;
 
+pub use ahead_store::AheadStore;
 pub use doubt::Doubt;
 pub use draft::Draft;
 pub use fitting::{Images, Misfit};

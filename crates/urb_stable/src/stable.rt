@@ -199,6 +199,14 @@ pub trait Stable {
         ensures trust { KeepsTrust (is_clean self.old) (is_honest self.old) (is_clean self.new)
             (is_honest self.new) (is_shut self.new) result };
 
+    /// Keeps these records ahead.
+    fn store_ahead(
+        &mut self,
+        entries: Vec<Record<Message<Self::Alloc>>, Self::Alloc>,
+    ) -> Result<(), StoreFault> {
+        Err(StoreFault::Place(self.next()))
+    }
+
     /// Returns all records, which are certain from then on. A failed retrieve changes nothing but
     /// the count of failures.
     fn retrieve(

@@ -19,6 +19,7 @@ use std::alloc::Global;
 use std::sync::ledger::Blank;
 use std::sync::{Mutex, MutexGuard, Wait};
 use urb_feed::Feed;
+use urb_foresight::WaitingCall;
 use urb_names::{NoMemory, NodeId, Packet};
 use urb_show::{House, HouseName};
 use urb_stable::Stable;
@@ -129,6 +130,30 @@ impl<K: HouseName, L: HubName> Hub<K, L> {
         let finished = tallied.finish(rt, alloc, node, turn, &mut tally);
         MutexGuard::unlock(tallied);
         (finished, tally)
+    }
+
+    /// Keeps ahead what these calls will draft.
+    pub fn keep_ahead<S: Stable<Alloc = Global>, G: Gate, R: Wait>(
+        &self,
+        rt: &R,
+        alloc: Global,
+        node: NodeId,
+        calls: &[WaitingCall<'_>],
+        store: &mut S,
+        gate: &G,
+    ) {
+        let tallied = self.tallied.lock(rt);
+        let foreseen = tallied.foresee(alloc, node, calls);
+        MutexGuard::unlock(tallied);
+        let Ok(foresight) = foreseen else {
+            return;
+        };
+        let records = foresight.into_records();
+        if records.len() < 2 {
+            return;
+        }
+        gate.before_store(node);
+        let _ = store.store_ahead(records);
     }
 
     /// A feed of a node, of the group as it is now. It takes the lock once.

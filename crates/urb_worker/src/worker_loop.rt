@@ -21,6 +21,7 @@ use crossbeam_channel::{Receiver, Sender};
 use std::alloc::Global;
 use std::sync::Wait;
 use std::time::Clock;
+use urb_foresight::WaitingCall;
 use urb_group::{Answer, Outbox, Reply};
 use urb_link::{Link, Ticket};
 use urb_names::{NoMemory, NodeId, Packet, encode_into};
@@ -332,7 +333,50 @@ pub fn serve_from<
             Ok(came) => came,
             Err(closed) => return (tally, closed),
         };
-        let (counted, refused) = do_round(setting, node, store, outlets, &mut state, came, tally);
+        let mut batch: Vec<Ticket<K>> = Vec::new(setting.alloc);
+        match came {
+            None => {
+                let (counted, refused) = do_round(setting, node, store, outlets, &mut state, None, tally);
+                tally = counted;
+                if refused.is_some() {
+                    setting.reporter.report_cut_feed(node);
+                }
+                continue;
+            }
+            Some(first) => {
+                let _ = batch.push(first);
+            }
+        }
+        while batch.len() < 16 {
+            match jobs.try_recv(rt) {
+                Ok(ticket) => {
+                    let _ = batch.push(ticket);
+                }
+                Err(_) => break,
+            }
+        }
+        if batch.len() >= 2 {
+            let mut calls: Vec<WaitingCall<'_>> = Vec::new(setting.alloc);
+            for ticket in &batch {
+                match &ticket.job {
+                    Job::Submit { client, number, payload, .. } => {
+                        let _ = calls.push(WaitingCall::Submit { client: *client, number: *number, payload });
+                    }
+                    Job::Arrive { bytes, .. } => {
+                        let _ = calls.push(WaitingCall::Arrive { bytes: bytes.as_slice() });
+                    }
+                    Job::Crash(_) | Job::Restart(_) => break,
+                    _ => {}
+                }
+            }
+            if calls.len() >= 2 {
+                setting.hub.keep_ahead(rt, setting.alloc, node, &calls, store, setting.gate);
+            }
+        }
+        for ticket in batch {
+            tally = do_ticket(setting, node, store, outlets, &mut state, false, ticket, tally);
+        }
+        let (counted, refused) = do_own_job(setting, node, store, outlets, &mut state, false, tally);
         tally = counted;
         if refused.is_some() {
             setting.reporter.report_cut_feed(node);

@@ -16,7 +16,7 @@ use std::time::Clock;
 use urb_link::{Link, NodeJobs, NodeQueue};
 use urb_names::NodeId;
 use urb_show::HouseName;
-use urb_stable::Stable;
+use urb_stable::{AheadStore, Stable};
 use urb_turn::{Gate, HubName, Reporter, Tally};
 
 /// What a worker starts with.
@@ -95,14 +95,15 @@ where
 {
     let WorkerInput {
         node,
-        mut store,
+        store,
         jobs,
         tally,
     } = input;
     let mut outlets = setting.outlets_for_worker();
     let tickets = jobs.receiver();
-    let (tally, _) = serve_from(setting, node, &mut store, &mut outlets, tickets, tally);
-    (store, tally)
+    let mut ahead = AheadStore::new(setting.alloc, store);
+    let (tally, _) = serve_from(setting, node, &mut ahead, &mut outlets, tickets, tally);
+    (ahead.into_inner(), tally)
 }
 
 /// Starts a worker for each input, the last input first. If a thread can't be made, the queues are

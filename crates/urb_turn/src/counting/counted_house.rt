@@ -27,6 +27,7 @@ use std::marker::Model;
 use std::sync::Wait;
 use std::sync::ledger::{Book, Share};
 use urb_feed::Feed;
+use urb_foresight::{Foreseen, Foresight, WaitingCall, foresee};
 use urb_names::{NoMemory, NodeId, Packet};
 use urb_show::{House, HouseName, Moment};
 use urb_stable::Stable;
@@ -183,6 +184,23 @@ impl<K: HouseName, L: HubName> CountedHouse<K, L> {
         // Does nothing at run time; it brings the house's invariant into the proof.
         house.recall();
         finished
+    }
+
+    // What calls will draft.
+    pub(crate) fn foresee(
+        &self,
+        alloc: Global,
+        node: NodeId,
+        calls: &[WaitingCall<'_>],
+    ) -> Result<Foresight, NoMemory> {
+        let mut foresight = Foresight::new(alloc);
+        for call in calls {
+            match foresee(self.house.group(), alloc, node, &mut foresight, call)? {
+                Foreseen::Unsure => return Ok(foresight),
+                _ => {}
+            }
+        }
+        Ok(foresight)
     }
 
     // A feed of a node, of the group as it is now.
