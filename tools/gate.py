@@ -37,7 +37,7 @@ FAILED = re.compile(r"FAILED \((.*)\)")
 SKIPPED = re.compile(r"skipped=(\d+)")
 # A line that tells of a failure.
 TROUBLE = re.compile(r"fail|refus|error|panic|traceback|killed|not proved|timed out", re.I)
-# So many of these lines of a failing command are shown again at the end.
+# The number of these lines of a failing command that the end shows again.
 SHOWN_LINES = 40
 
 
