@@ -1,12 +1,12 @@
-"""What one sync for many records could bring: the floor with several records a sync.
+"""What one sync for many records brings: urbd, and the floor with several records a sync.
 
     python3 -m bench.ceiling PROGRAM [--rounds N] [--seconds S] [--dir D]
 
-urbd keeps one record a sync. The floor (floor.c) stores and sends what a group does for a message,
-and nothing else. Here it takes up to 1, 4, 16 and 64 records together. Beside it stand urbd itself,
-and redis, which syncs what came together once. Each figure is the messages that clients submit a
-second, the median of N rounds (3) of S seconds (2). Without redis its column is empty. The files
-are made below D.
+The floor (floor.c) stores and sends what a group does for a message, and nothing else. Here it
+takes up to 1, 4, 16 and 64 records together. Beside it stand urbd itself, which keeps up to 16
+records a sync, and redis, which syncs what came together once. Each figure is the messages that
+clients submit a second, the median of N rounds (3) of S seconds (2). Without redis its column is
+empty. The files are made below D.
 """
 from __future__ import annotations
 

@@ -123,7 +123,10 @@ def place(program: Program, room: Path, base: int) -> list[str]:
     ):
         assert unit[name] == value, f"{name}: expected {value}, and the unit has {unit[name]}"
     start = unit["ExecStart"].replace("/opt/urbd", str(room))
-    start = start.replace("/var/lib/urbd", str(room / "lib")).replace("7400", str(base))
+    (room / "run").mkdir()
+    for path, name in (("/var/lib/urbd", "lib"), ("/run/urbd", "run")):
+        start = start.replace(path, str(room / name))
+    start = start.replace("7400", str(base))
     return shlex.split(start)
 
 

@@ -19,6 +19,7 @@ use Rattle.urb_group.specs.StoreContents.{AreChosen, IsKnown, WouldLeave, WouldL
 use Rattle.urb_group.specs.StoreOpenings.{AllGive, HasStopped}
 use Rattle.urb_world.specs.StoresAhead.{IsAsStored}
 use Rattle.urb_world.specs.World.{World}
+use Rattle.urb_turn.specs.NodeStores.{HoldNoneAhead}
 use Rattle.sqlite.specs.Files.{HoldsDatabase}
 use Rattle.sqlite_trees.specs.Tree.{Trees}
 use Rattle.sqlite_wal.specs.Recovery.{Image}
@@ -86,20 +87,21 @@ opens-given g old w size stores images asked group stopped count given known ope
               (recursion_from_All g.is_clean asked clean);
         }
 
--- a run over stores that hold what a stop left, and that are honest or shut by a failure
+-- a run over stores that hold what a stop left and nothing ahead, and that are honest or shut by a
+-- failure
 pub resumes : {S A : Type 0} (g : Ghosts S A) (old : GroupView) (w : World) (size : Limits)
     (stores : List S) (told : Bool) (end : Result ℕ ServeFault) (lasts : List S)
     → length stores ≡ size.n → HasStopped g old w size stores → All (IsKnown g) stores
-    → EndsAfterStop g old w size stores told end lasts
+    → HoldNoneAhead g stores → EndsAfterStop g old w size stores told end lasts
     → Resumes g old w size stores told end lasts
-resumes g old w size stores told end lasts count stopped known (inl e) =
+resumes g old w size stores told end lasts count stopped known none (inl e) =
     inl (record {
       why = e.why;
       stays = e.stays.0;
       cause = λ may clean. e.stays.1 may (inr (known, clean));
       ends = e.ends;
     })
-resumes g old w size stores told end lasts count stopped known (inr e) =
+resumes g old w size stores told end lasts count stopped known none (inr e) =
     inr (record {
       group = e.group;
       asked = e.asked;
@@ -110,7 +112,7 @@ resumes g old w size stores told end lasts count stopped known (inr e) =
           (sound-kept old stopped.shown stopped.sound stopped.shows))
           (after clean);
       served = e.served;
-      leaves = e.leaves known;
+      leaves = e.leaves known none;
       ends = e.ends;
     })
   where
@@ -126,12 +128,14 @@ pub resumes_found : {S A : Type 0} (g : Ghosts S A) (held : ℕ → Image) (size
     → EndsAfterStop g old w size journals told end lasts)
     → AreFoundIn g held journals → length journals ≡ size.n
     → ((j : S) → g.is_honest j → g.is_clean j) → ((j : S) → g.doubt j ≡ None)
+    → HoldNoneAhead g journals
     → (old : GroupView) (w : World) → HasLeft held old w size
     → Resumes g old w size journals told end lasts
-resumes_found g held size journals told end lasts goes_on found count cleans sure old w left =
+resumes_found g held size journals told end lasts goes_on found count cleans sure none old w left =
     let stopped = stopped_files g cleans sure held old w size journals count found left in
     resumes g old w size journals told end lasts count stopped
-    (known_files g cleans sure held old w size journals count found left) (goes_on old w stopped)
+    (known_files g cleans sure held old w size journals count found left) none
+    (goes_on old w stopped)
 
 -- files in which a stop left what it may leave of the nodes
 pub left_over : {S A : Type 0} (g : Ghosts S A) (w : World) (journals : List S)

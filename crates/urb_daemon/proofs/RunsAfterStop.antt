@@ -1,6 +1,6 @@
 -- How a run of a group ends, also over stores that a stop had left.
 use Rattle.std.proofs.Common.{Bool, Err, IfSome, List, None, Ok, Option, Result, Some, [], ap}
-use Rattle.std.proofs.Common.{arith, false, inl, inr, refl, subst, suc, sym, true, ℕ, ◌≡◌}
+use Rattle.std.proofs.Common.{arith, false, inl, inr, refl, subst, suc, sym, true, ℕ, ◌∙◌, ◌≡◌}
 use Rattle.std.proofs.lemmas.List.Elements.{recursion_from_All}
 use Rattle.std.specs.List.{All}
 use Rattle.std.specs.Prelude.{slice_get, slice_index_or}
@@ -22,7 +22,8 @@ use Rattle.urb_folder.specs.AskedStores.{OpensTogether}
 use Rattle.urb_daemon.specs.RunsAfterStop.{EndsAfterStop}
 use Rattle.urb_daemon.specs.Runs.{EndsAs, EndsFrom, HaveServed, StopsIfEnded}
 use Rattle.urb_daemon.specs.internal.Runs.{end_of}
-use Rattle.urb_worker.proofs.EndedRuns.{leaves_stopped, leaves_would}
+use Rattle.urb_turn.specs.NodeStores.{HoldNoneAhead}
+use Rattle.urb_worker.proofs.EndedRuns.{leaves_stopped, leaves_would, tails_would}
 use Rattle.urb_worker.specs.ServedStores.{EndsWhole}
 
 -- ---- how a run ends
@@ -59,9 +60,9 @@ pub stops-if-ended :
     (asked lasts : List S) (from : OpensTogether g own stores (Ok group) asked)
     (events : Option ℕ) (told : Bool) (end : Result ℕ ServeFault)
     → IfSome events (λ count. EndsWhole g group asked lasts) → end ≡ end_of events told
-    → All (IsKnown g) stores
+    → All (IsKnown g) stores → HoldNoneAhead g stores
     → StopsIfEnded g end own group (opened own (image_of from.images)) lasts
-stops-if-ended {S} g own stores group asked lasts from events told end whole ends known =
+stops-if-ended {S} g own stores group asked lasts from events told end whole ends known none =
     subst (λ e. StopsIfEnded g e own group start lasts) (sym ends) (at events told whole)
   where
     start : World
@@ -93,6 +94,12 @@ stops-if-ended {S} g own stores group asked lasts from events told end whole end
           lasting = λ i store got. (beside i store got).1;
         }
 
+    -- nor does it hold records ahead
+    bare : HoldNoneAhead g asked
+    bare i store got =
+        let one = given-at g stores from.images asked from.given i store got in
+        one.2.ahead.ahead ∙ none i one.0 one.1
+
     at : (events : Option ℕ) (told : Bool)
         → IfSome events (λ count. EndsWhole g group asked lasts)
         → StopsIfEnded g (end_of events told) own group start lasts
@@ -105,9 +112,10 @@ stops-if-ended {S} g own stores group asked lasts from events told end whole end
           later = w.group;
           leads = w.leads;
           stopped =
-              leaves_stopped g (beside_stores group asked) own lasts secured w
+              leaves_stopped g (beside_stores group asked) own lasts secured bare w
               (omega (arith, nodes));
-          left = leaves_would g (beside_stores group asked) lasts secured w;
+          left = leaves_would g (beside_stores group asked) lasts secured bare w;
+          tails = tails_would g (beside_stores group asked) lasts secured bare w;
         }
 
 -- the end of a run of a group that was opened from these stores
@@ -116,7 +124,7 @@ pub ends-opened :
     (asked lasts : List S) (from : OpensTogether g own stores (Ok group) asked) (told : Bool)
     (end : Result ℕ ServeFault)
     → HaveServed g group asked lasts
-    → (All (IsKnown g) stores
+    → (All (IsKnown g) stores → HoldNoneAhead g stores
     → StopsIfEnded g end own group (opened own (image_of from.images)) lasts)
     → EndsAs told end
     → EndsFrom g own stores told end lasts
@@ -142,7 +150,7 @@ pub served-after-stop :
     → ((old : GroupView) (w : World) → HasStopped g old w size stores
     → ContinuesTogether g old w size stores result asked)
     → HaveServed g group asked lasts
-    → (All (IsKnown g) stores
+    → (All (IsKnown g) stores → HoldNoneAhead g stores
     → StopsIfEnded g end own group (opened own (image_of from.images)) lasts)
     → EndsAs told end
     → (old : GroupView) (w : World) → HasStopped g old w own stores

@@ -13,7 +13,7 @@ use Rattle.urb_folder.specs.AskedStores.{AllAnswer, AreRefusedTogether, OpensTog
 use Rattle.urb_stable.specs.StableStorage.{list_in}
 
 -- stores that were not asked
-unasked : {S A : Type 0} (g : Ghosts S A) (stores : List S) → MayAllBeAsked g stores stores
+pub unasked : {S A : Type 0} (g : Ghosts S A) (stores : List S) → MayAllBeAsked g stores stores
 unasked g [] = tt
 unasked g (store ∷ stores) = (inl refl, unasked g stores)
 

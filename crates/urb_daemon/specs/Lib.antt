@@ -7,6 +7,7 @@ pub mod OpeningFaults
 pub mod Programs
 pub mod Runs
 pub mod RunsAfterStop
+pub mod RunsAhead
 pub mod ServeFaults
 pub mod SocketFaults
 pub mod SocketFiles

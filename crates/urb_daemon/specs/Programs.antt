@@ -1,10 +1,10 @@
 -- How the program ends, from its command line to its status.
-use Rattle.std.specs.Prelude.{Bool, List, Option, Result, Some, length, ℕ, ◌≡◌, ◌⊎◌}
+use Rattle.std.specs.Prelude.{Bool, List, Option, Result, Some, length, map, ℕ, ◌≡◌, ◌⊎◌}
 use Rattle.clap.specs.Words.{Text, subcommand_of}
 use Rattle.sqlite_wal.specs.Recovery.{Image}
 use Rattle.urb_names.specs.LabelsAndContents.{Limits}
+use Rattle.urb_stable.specs.AheadStores.{fresh, ghosts_over}
 use Rattle.urb_stable.specs.declared.stable.Stable.{Ghosts}
-use Rattle.urb_group.specs.StoreOpenings.{HasStopped}
 use Rattle.urb_group.specs.GroupViews.{GroupView}
 use Rattle.urb_world.specs.World.{World}
 use Rattle.urb_sqlite.specs.FoundJournals.{AreFoundIn}
@@ -14,34 +14,32 @@ use Rattle.urb_options.specs.Tasks.{IsRefused, task_named, task_of}
 use Rattle.urb_options.specs.declared.task.Line.{Line}
 use Rattle.urb_options.specs.declared.task.Line.TheVariants as line
 use Rattle.urb_daemon.specs.Endings.{ShowsEnd}
-use Rattle.urb_daemon.specs.Runs.{ComeBack, EndsFrom, limits_of}
-use Rattle.urb_daemon.specs.RunsAfterStop.{EndsAfterStop, Resumes}
+use Rattle.urb_daemon.specs.Runs.{limits_of}
+use Rattle.urb_daemon.specs.RunsAfterStop.{Resumes}
+use Rattle.urb_daemon.specs.RunsAhead.{RanAhead}
 use Rattle.urb_daemon.specs.declared.serve_fault.ServeFault.{ServeFault}
 use Rattle.urb_folder.specs.OpenedJournals.{AreOfNodes}
 use Rattle.urb_folder.specs.StoppedFiles.{HasLeft}
 
 module _ {J A : Type 0} (g : Ghosts J A) (node : J → ℕ) (held : ℕ → Image) where
   -- A group ran over the journals of its folder. There was one for each node, and each was found in
-  -- what its node's files held. The group went on from what a stop had left in the journals, or in
-  -- the files. The journals are closed as their nodes' turns left them. Standard output, which has
-  -- these bytes at last, and the status show how the run ended.
+  -- what its node's files held. Each was wrapped in a store that may hold records ahead of its
+  -- node. The group went on from what a stop had left in the journals, or in the files. The
+  -- journals are closed as their nodes' turns left them. Standard output, which has these bytes at
+  -- last, and the status show how the run ended.
   pub record RanFolder (size : Limits) (new : Option (List ℕ)) (status : ℕ) : Type 0 where
     pub journals : List J
-    pub lasts : List J
+    pub closed : List J
     pub told : Bool
     pub end : Result ℕ ServeFault
     pub before : Option (List ℕ)
     pub count : length journals ≡ size.n
     pub nodes : AreOfNodes node journals
     pub found : AreFoundIn g held journals
-    pub order : ComeBack g journals lasts
-    pub ends : EndsFrom g size journals told end lasts
-    pub goes_on :
-        (old : GroupView) (w : World) → HasStopped g old w size journals
-        → EndsAfterStop g old w size journals told end lasts
+    pub ran : RanAhead g size journals told end closed
     pub resumes :
         (old : GroupView) (w : World) → HasLeft held old w size
-        → Resumes g old w size journals told end lasts
+        → Resumes (ghosts_over g) old w size (map (fresh g) journals) told end ran.lasts
     pub shows : ShowsEnd end before new status
 
   -- The end of a group, and the bytes of standard output before and after. It never ran: nothing is

@@ -7,7 +7,7 @@ use Rattle.urb_names.specs.declared.refusal.Refusal.{Refusal}
 use Rattle.urb_stable.specs.Entries.{Entry}
 use Rattle.urb_stable.specs.declared.stable.Stable.{Ghosts}
 use Rattle.urb_stable.specs.declared.stable.StoreFault.{StoreFault}
-use Rattle.urb_group.specs.StoreQuestions.{Gives}
+use Rattle.urb_stable.specs.RetrievedRecords.{Gives}
 use Rattle.urb_group.specs.GroupViews.{GroupView}
 use Rattle.urb_world.specs.RecoveryPlans.{after}
 use Rattle.urb_world.specs.Step.{Event}
@@ -15,6 +15,7 @@ use Rattle.urb_group.specs.StoreContents.{IsKnown, WouldLeave}
 use Rattle.urb_group.specs.StoreOpenings.{HasStopped}
 use Rattle.urb_world.specs.World.{World, image_of, opened}
 use Rattle.urb_show.specs.Pasts.{IsLedTo}
+use Rattle.urb_turn.specs.NodeStores.{HaveTails, HoldNoneAhead}
 use Rattle.urb_worker.specs.ServedStores.{AreServed, numbers_from}
 use Rattle.urb_options.specs.declared.serve_options.ServeOptions.{ServeOptions}
 use Rattle.urb_daemon.specs.declared.serve_fault.ServeFault.{ServeFault}
@@ -62,7 +63,8 @@ module _ {S A : Type 0} (g : Ghosts S A) where
 
   -- A run ended whose group showed this world when it was opened. Its history led to a last group.
   -- The stores hold what a stop leaves of the world after the history, and so do they after a stop
-  -- of the machine. The next start, under these limits, goes on from there.
+  -- of the machine. The next start, under these limits, goes on from there. What the stores hold
+  -- ahead may follow.
   pub record StopsAfter (size : Limits) (group : GroupView) (start : World) (lasts : List S)
       : Type 0 where
     pub history : List Event
@@ -70,6 +72,7 @@ module _ {S A : Type 0} (g : Ghosts S A) where
     pub leads : IsLedTo group history later
     pub stopped : HasStopped g later (after start history) size lasts
     pub left : WouldLeave g (after start history) lasts
+    pub tails : HaveTails g (after start history) lasts
 
   -- the same, if the run came to its end
   abbrev pub StopsIfEnded : Result ℕ ServeFault → Limits → GroupView → World → List S → Type 0
@@ -84,15 +87,15 @@ module _ {S A : Type 0} (g : Ghosts S A) where
     pub ends : end ≡ Err (Unopened why)
 
   -- The group was opened from the records that these stores gave, and they served it until the run
-  -- ended. If each was honest or shut by a failure, they hold what a stop leaves of a world that
-  -- follows the opened one.
+  -- ended. If each was honest or shut by a failure, and none held records ahead, they hold what a
+  -- stop leaves of a world that follows the opened one.
   pub record EndsOpened (size : Limits) (stores : List S) (told : Bool) (end : Result ℕ ServeFault)
       (lasts : List S) : Type 0 where
     pub group : GroupView
     pub asked : List S
     pub opens : OpensTogether g size stores (Ok group) asked
     pub served : HaveServed group asked lasts
-    pub leaves : All (IsKnown g) stores
+    pub leaves : All (IsKnown g) stores → HoldNoneAhead g stores
         → StopsIfEnded end size group (opened size (image_of opens.images)) lasts
     pub ends : EndsAs told end
 

@@ -11,6 +11,7 @@ use Rattle.urb_group.specs.GroupViews.{GroupView, IsSound}
 use Rattle.urb_world.specs.ProcessStops.{GoesOnUnder}
 use Rattle.urb_world.specs.StartLimits.{MayStartWith}
 use Rattle.urb_world.specs.World.{World, image_of, opened}
+use Rattle.urb_turn.specs.NodeStores.{HoldNoneAhead}
 use Rattle.urb_daemon.specs.declared.serve_fault.ServeFault.{ServeFault}
 use Rattle.urb_daemon.specs.declared.serve_fault.ServeFault.TheVariants.{Unopened}
 use Rattle.urb_folder.specs.GroupsAfterStop.{AreIntact, ContinuesTogether}
@@ -41,7 +42,7 @@ module _ {S A : Type 0} (g : Ghosts S A) where
     pub sound : IsSound group
     pub goes_on : AreIntact g passed asked → ContinuesFrom g w passed group
     pub served : HaveServed g group asked lasts
-    pub leaves : All (IsKnown g) passed
+    pub leaves : All (IsKnown g) passed → HoldNoneAhead g passed
         → StopsIfEnded g end size group (opened size (image_of opens.images)) lasts
     pub ends : EndsAs told end
 

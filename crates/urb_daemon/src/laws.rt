@@ -9,6 +9,7 @@ ghost use Rattle.urb_names.specs.ListPrefixes.{Begins};
 ghost use Rattle.urb_names.specs.Nodes.{is_node};
 ghost use Rattle.urb_node.specs.Replies.{Same};
 ghost use Rattle.urb_node.specs.declared.answer.Answer.TheVariants.{Accepted};
+ghost use Rattle.urb_stable.specs.AheadStores.{IsSound as IsSoundStore, ghosts_over};
 ghost use Rattle.urb_stable.specs.DeliveredLogs.{entries};
 ghost use Rattle.urb_stable.specs.Entries.{Entry};
 ghost use Rattle.urb_world.specs.Acceptance.{HasStored};
@@ -17,12 +18,13 @@ ghost use Rattle.urb_world.specs.Step.{Submit, step};
 ghost use Rattle.urb_group.specs.StoreContents.{WouldLeave, WouldLeaveAhead};
 ghost use Rattle.urb_world.specs.StoresAhead.{IsAsStored};
 ghost use Rattle.urb_world.specs.World.{World, image_of, opened, started, stored};
+ghost use Rattle.urb_turn.specs.NodeStores.{HaveTails};
 ghost use Rattle.urb_sqlite.specs.FoundJournals.{HoldsRecords};
 ghost use Rattle.urb_folder.specs.StoppedFiles.{HasLeft, HoldsStopped};
 ghost use Rattle.urb_daemon.specs.Lives.{Lives, OpensAfter};
 
 use urb_folder::{Journal, NodeDisk};
-use urb_stable::Stable;
+use urb_stable::{AheadStore, Stable};
 
 /// Nothing is lost over any number of starts, whenever the process was killed in between. What a
 /// node has stored as its own stays stored under its name, and what it has shown stays shown. At each
@@ -74,5 +76,26 @@ pub fn a_stop_ahead_leaves_what_the_next_start_takes<D: NodeDisk>(journals: &[Jo
         HoldsStopped (⟦<Journal<D> as Stable>⟧.is_clean j)
         (file_state j.journal.conn).may_leave (held (suc i))) →
         ((i : ℕ) → length journals.now ≤ i → i < size.n → HoldsRecords (held (suc i)) []) →
+        (v : World) × IsAsStored w v × HasLeft held old v size }
+{}
+
+/// The same of a run whose journals are inside stores that may hold records ahead, as the daemon's
+/// are. Each node of the group has a store. Its journal has the records ahead already. If it failed
+/// to keep them, it has all of them or none. The next start takes the world as the journals have
+/// it.
+pub fn a_stop_inside_leaves_what_the_next_start_takes<D: NodeDisk>(
+    stores: &[AheadStore<Journal<D>>],
+)
+    ensures { (held : ℕ → Image) (old : GroupView) (w : World) (size : Limits) →
+        IsSound old → length old.nodes ≡ old.size.n → old.size.n ≤ size.n → Shows old w →
+        length old.nodes ≡ length stores.now →
+        WouldLeave (ghosts_over ⟦<Journal<D> as Stable>⟧) w stores.now →
+        HaveTails (ghosts_over ⟦<Journal<D> as Stable>⟧) w stores.now →
+        ((i : ℕ) (s : _) → slice_get stores.now i ≡ Some s →
+        IsSoundStore ⟦<Journal<D> as Stable>⟧ s) →
+        ((i : ℕ) (s : _) → slice_get stores.now i ≡ Some s →
+        HoldsStopped (⟦<Journal<D> as Stable>⟧.is_clean s.store)
+        (file_state s.store.journal.conn).may_leave (held (suc i))) →
+        ((i : ℕ) → length stores.now ≤ i → i < size.n → HoldsRecords (held (suc i)) []) →
         (v : World) × IsAsStored w v × HasLeft held old v size }
 {}

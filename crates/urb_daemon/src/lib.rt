@@ -46,7 +46,7 @@ pub use opening_fault::{fault_of_folder, report_folder_fault};
 pub use program::{run_program, run_words, serve_folder};
 pub use prompted_input::PromptedInput;
 pub use reports::Reports;
-pub use run::{Host, report_end, run_group_at, run_journals, run_stores};
+pub use run::{Host, report_end, run_ahead, run_group_at, run_journals, run_stores};
 pub use serve_fault::{ServeFault, fault_of_serve, report_serve_fault};
 pub use socket_fault::{SocketCause, judge_making, judge_probe};
 pub use socket_files::{MAX_SOCKET_PATH, make_socket_path, open_socket, remove_sockets};

@@ -1,12 +1,15 @@
 //! The run of a group over its stores, from its opening until standard input ends.
 
-ghost use Rattle.std.specs.Prelude.{◌≡◌, IfSome, OnOk, vec_len};
+ghost use Rattle.std.specs.Prelude.{◌≡◌, ◌≤◌, IfSome, OnOk, Some, map, slice_get, vec_capacity};
+ghost use Rattle.std.specs.Prelude.{vec_len};
 ghost use Rattle.std.specs.Io.KnownBytes.{Appends};
+ghost use Rattle.urb_stable.specs.AheadStores.{IsSound, fresh};
 ghost use Rattle.urb_group.specs.StoreOpenings.{HasStopped};
 ghost use Rattle.urb_group.specs.GroupViews.{GroupView};
 ghost use Rattle.urb_world.specs.World.{World};
 ghost use Rattle.urb_daemon.specs.Endings.{ShowsEnd, closed_line};
 ghost use Rattle.urb_daemon.specs.RunsAfterStop.{EndsAfterStop};
+ghost use Rattle.urb_daemon.specs.RunsAhead.{RanAhead};
 ghost use Rattle.urb_daemon.specs.Runs.{ComeBack, EndsFrom, HaveServed, limits_of};
 ghost use Rattle.urb_daemon.specs.internal.Runs.{end_of};
 ghost use Rattle.urb_worker.specs.ServedStores.{EndsWhole};
@@ -27,8 +30,10 @@ use std::thread::Threads;
 use std::time::Clock;
 use urb_folder::{Journal, open_group};
 use urb_group::{Group, Stable};
+use urb_names::Refusal;
 use urb_options::{Fault, ServeOptions, report_fault};
 use urb_show::House;
+use urb_stable::AheadStore;
 use urb_turn::Reporter;
 use urb_worker::{GroupSetting, Watch, run_group};
 
@@ -166,8 +171,77 @@ where
     }
 }
 
-/// Runs a group over its nodes' journals, in files of any kind, as `run_stores` does. That a
-/// journal may go to a thread is proved here, from the one fact that its file may.
+// Wraps each store in one that may hold records ahead of its node. The emptied list keeps its room.
+fn wrap_all<S: Stable<Alloc = Global> + Drop>(
+    alloc: Global,
+    stores: Vec<S>,
+    wrapped: Vec<AheadStore<S>>,
+) -> (Vec<S>, Vec<AheadStore<S>>)
+    requires { (vec_len wrapped ≡ 0) × (vec_len stores ≤ vec_capacity wrapped) }
+    ensures room { (vec_len result.0 ≡ 0) × (vec_len stores ≤ vec_capacity result.0) }
+    ensures count { vec_len result.1 ≡ vec_len stores }
+    ensures wrapped { result.1.items ≡ map (fresh S.Stable) stores.items }
+{
+    let mut stores = stores;
+    let mut wrapped = wrapped;
+    while let Some(store) = stores.pop() {
+        wrapped.push_reserved(AheadStore::new(alloc, store));
+    }
+    wrapped.reverse();
+    (stores, wrapped)
+}
+
+// Takes each store out of the one that it was wrapped in.
+fn unwrap_all<S: Stable<Alloc = Global> + Drop>(
+    wrapped: Vec<AheadStore<S>>,
+    stores: Vec<S>,
+) -> Vec<S>
+    requires { (vec_len stores ≡ 0) × (vec_len wrapped ≤ vec_capacity stores) }
+    ensures count { vec_len result ≡ vec_len wrapped }
+    ensures stores { result.items ≡ map (λ s. s.store) wrapped.items }
+    ensures sound { (i : _) (s : _) → slice_get wrapped.items i ≡ Some s → IsSound S.Stable s }
+{
+    let mut wrapped = wrapped;
+    let mut stores = stores;
+    while let Some(store) = wrapped.pop() {
+        // Does nothing at run time; it brings the store's invariant into the proof.
+        store.recall();
+        stores.push_reserved(store.into_inner());
+    }
+    stores.reverse();
+    stores
+}
+
+/// Runs a group over its stores, as `run_stores` does. Each is wrapped in a store that may hold
+/// records ahead of its node, and is taken out of it at the end. If memory for that is refused, no
+/// store is asked, and the group can't be opened.
+pub fn run_ahead<S: Stable<Alloc = Global> + Send + Drop, R, H: Reporter + Sync, W: Write, I: Read>(
+    rt: &R,
+    alloc: Global,
+    serving: ServeOptions<'_>,
+    stores: Vec<S>,
+    reporter: &H,
+    console: &mut Console<'_, W, I>,
+) -> (Vec<S>, Result<u64, ServeFault>)
+where
+    R: Host + Net<Listener = TcpListener, Stream = TcpStream>,
+    requires { vec_len stores ≡ serving.nodes }
+    ensures count { vec_len result.0 ≡ vec_len stores }
+    // The stores are returned in their nodes' order, each as its own node's jobs left it. The run
+    // ends as one over the wrapped stores.
+    ensures ran { RanAhead S.Stable (limits_of serving.entry) stores.items console.new.is_told
+        result.1 result.0.items }
+{
+    let Ok(wrapped) = Vec::with_capacity(alloc, stores.len()) else {
+        return (stores, Err(ServeFault::Unopened(Refusal::NoMemory)));
+    };
+    let (stores, wrapped) = wrap_all(alloc, stores, wrapped);
+    let (lasts, ended) = run_stores(rt, alloc, serving, wrapped, reporter, console);
+    (unwrap_all(lasts, stores), ended)
+}
+
+/// Runs a group over its nodes' journals, in files of any kind, as `run_ahead` does. That a journal
+/// may go to a thread is proved here, from the one fact that its file may.
 pub fn run_journals<D: Disk + Send + Drop, R, H: Reporter + Sync, W: Write, I: Read>(
     rt: &R,
     alloc: Global,
@@ -180,20 +254,12 @@ where
     R: Host + Net<Listener = TcpListener, Stream = TcpStream>,
     requires { vec_len journals ≡ serving.nodes }
     ensures count { vec_len result.0 ≡ vec_len journals }
-    // The journals are returned in their nodes' order, each as its own node's jobs left it.
-    ensures order { ComeBack ⟦<Journal<D> as Stable>⟧ journals.items result.0.items }
-    // A count of events comes only from a run whose opening was reported. A fault is the first that
-    // there was.
-    ensures ends { EndsFrom ⟦<Journal<D> as Stable>⟧ (limits_of serving.entry) journals.items
-        console.new.is_told result.1 result.0.items }
-    // If the stores hold what a stop of a group of as many nodes, or fewer, left, the group goes on
-    // from the world before the stop. The cap may be another one.
-    ensures goes_on { (old : GroupView) (w : World)
-        → HasStopped ⟦<Journal<D> as Stable>⟧ old w (limits_of serving.entry) journals.items
-        → EndsAfterStop ⟦<Journal<D> as Stable>⟧ old w (limits_of serving.entry) journals.items
+    // The journals are returned in their nodes' order, each as its own node's jobs left it. The run
+    // ends as one over the wrapped journals.
+    ensures ran { RanAhead ⟦<Journal<D> as Stable>⟧ (limits_of serving.entry) journals.items
         console.new.is_told result.1 result.0.items }
 {
-    run_stores(rt, alloc, serving, journals, reporter, console)
+    run_ahead(rt, alloc, serving, journals, reporter, console)
 }
 
 // Writes the line of a group that ended, with the number of its events.

@@ -17,7 +17,7 @@ pub use Rattle.urb_group.proofs.stops.AskedStores.{written-back}
 pub use Rattle.urb_group.specs.GroupViews.{GroupView}
 pub use Rattle.urb_group.specs.StoreContents.{IsKnown}
 pub use Rattle.urb_group.specs.StoreOpenings.{AllGive, HasStopped}
-pub use Rattle.urb_group.specs.StoreQuestions.{Gives}
+pub use Rattle.urb_stable.specs.RetrievedRecords.{Gives}
 pub use Rattle.urb_names.proofs.Places.{get_some}
 pub use Rattle.urb_names.specs.LabelsAndContents.{Limits}
 pub use Rattle.urb_node.specs.Part.{Node}

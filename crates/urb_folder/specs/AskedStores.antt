@@ -7,7 +7,7 @@ use Rattle.urb_stable.specs.Entries.{Entry}
 use Rattle.urb_stable.specs.StableStorage.{list_in, refusal_of}
 use Rattle.urb_stable.specs.declared.stable.Stable.{Ghosts}
 use Rattle.urb_stable.specs.declared.stable.StoreFault.{StoreFault}
-use Rattle.urb_group.specs.StoreQuestions.{Gives}
+use Rattle.urb_stable.specs.RetrievedRecords.{Gives}
 use Rattle.urb_group.specs.StoreOpenings.{OpensGiven}
 use Rattle.urb_group.specs.GroupViews.{GroupView}
 use Rattle.urb_folder.specs.ParallelOutcomes.{FailsFirst}

@@ -1,7 +1,7 @@
 //! Asks the stores in parallel for the records that they hold.
 
 ghost use Rattle.std.specs.Prelude.{◌≡◌, ◌≤◌, IfErr, IfOk, map, vec_capacity, vec_len};
-ghost use Rattle.urb_group.specs.StoreQuestions.{Gives};
+ghost use Rattle.urb_stable.specs.RetrievedRecords.{Gives};
 ghost use Rattle.urb_folder.specs.AskedStores.{AllAnswer};
 ghost use Rattle.urb_stable.specs.StableStorage.{list_in};
 ghost use Rattle.urb_folder.specs.internal.RetrievedImages.{RetrievesTogether};

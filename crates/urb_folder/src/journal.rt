@@ -76,6 +76,10 @@ impl<D: Disk> Stable for Journal<D> {
 
     ghost answers = { λ j. ⟦<SqlStable<FileStore<D>> as Stable>⟧.answers j.journal };
 
+    ghost ahead = { λ j. ⟦<SqlStable<FileStore<D>> as Stable>⟧.ahead j.journal };
+
+    ghost base = { λ j. ⟦<SqlStable<FileStore<D>> as Stable>⟧.base j.journal };
+
     fn next(&self) -> u32 {
         self.journal.next()
     }

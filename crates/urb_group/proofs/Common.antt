@@ -37,7 +37,8 @@ pub use Rattle.urb_group.specs.StoreContents.{IsStocked, IsStoreOf, LeavesOf, Re
 pub use Rattle.urb_group.specs.StoreContents.{StopLeaves}
 pub use Rattle.urb_group.specs.StoreOpenings.{AllGive, Continues, FirstFails, OpensFrom}
 pub use Rattle.urb_group.specs.StoreOpenings.{OpensStores, stores_in}
-pub use Rattle.urb_group.specs.StoreQuestions.{Gives, IsBlank}
+pub use Rattle.urb_group.specs.BlankStores.{IsBlank}
+pub use Rattle.urb_stable.specs.RetrievedRecords.{Gives}
 pub use Rattle.urb_group.specs.declared.command.Command.{Command}
 pub use Rattle.urb_group.specs.declared.taken.Taken.{Taken}
 pub use Rattle.urb_group.specs.internal.CallReplies.{IsUnfallen, IsUnstored}

@@ -16,7 +16,7 @@ use Rattle.urb_stable.specs.declared.stable.Stable.{Ghosts}
 use Rattle.urb_stable.specs.declared.stable.StoreFault.{StoreFault}
 use Rattle.urb_node.specs.Replies.{Drafted, Refused, Reply, Same, Sent, Stored, Up, WentDown}
 use Rattle.urb_node.specs.Steps.{is_down}
-use Rattle.urb_group.specs.StoreQuestions.{Gives}
+use Rattle.urb_stable.specs.RetrievedRecords.{Gives}
 use Rattle.urb_group.specs.GroupCalls.{IsRefused, Steps}
 use Rattle.urb_group.specs.GroupStores.{Clustered, held_draft}
 use Rattle.urb_group.specs.GroupViews.{GroupView, Shows, view_of}

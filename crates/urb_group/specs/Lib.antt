@@ -4,7 +4,7 @@ pub mod ReportedStates
 pub mod GroupCalls
 pub mod Commands
 pub mod GroupStores
-pub mod StoreQuestions
+pub mod BlankStores
 pub mod ClusterCalls
 pub mod PlayedCommands
 pub mod StoreContents

@@ -9,7 +9,7 @@ use Rattle.urb_stable.specs.StableStorage.{refusal_of}
 use Rattle.urb_stable.specs.declared.stable.Stable.{Ghosts}
 use Rattle.urb_stable.specs.declared.stable.StoreFault.{StoreFault}
 use Rattle.urb_node.specs.Part.{Ready}
-use Rattle.urb_group.specs.StoreQuestions.{Gives}
+use Rattle.urb_stable.specs.RetrievedRecords.{Gives}
 use Rattle.urb_group.specs.GroupCalls.{Opens}
 use Rattle.urb_group.specs.GroupStores.{Clustered}
 use Rattle.urb_group.specs.GroupViews.{GroupView, IsSound, Shows, view_of}

@@ -3,7 +3,7 @@
 ghost use Rattle.std.specs.List.{All};
 ghost use Rattle.std.specs.Prelude.{◌≡◌, length, IfOk};
 ghost use Rattle.urb_names.specs.PacketGrammar.{packet_of};
-ghost use Rattle.urb_group.specs.StoreQuestions.{IsBlank};
+ghost use Rattle.urb_group.specs.BlankStores.{IsBlank};
 ghost use Rattle.urb_group.specs.GroupStores.{held_draft};
 ghost use Rattle.urb_group.specs.ClusterCalls.{Alone, Applies, FailsHeld, RestartsBy, Starts};
 ghost use Rattle.urb_group.specs.ClusterCalls.{StoresHeld, is_fallen};

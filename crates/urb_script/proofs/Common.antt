@@ -21,7 +21,7 @@ pub use Rattle.urb_group.specs.ClusterCalls.{StoreMoves}
 pub use Rattle.urb_group.specs.GroupCalls.{Steps}
 pub use Rattle.urb_group.specs.GroupStores.{Clustered, held_draft}
 pub use Rattle.urb_group.specs.GroupViews.{GroupView, Shows}
-pub use Rattle.urb_group.specs.StoreQuestions.{Gives}
+pub use Rattle.urb_stable.specs.RetrievedRecords.{Gives}
 pub use Rattle.urb_names.specs.CarriedPackets.{Carried}
 pub use Rattle.urb_names.specs.LabelsAndContents.{Content, IsLabel, Label, Limits}
 pub use Rattle.urb_names.specs.Nodes.{is_node, numbers_from}

@@ -145,7 +145,7 @@ impl<D: Disk> SqlStable<FileStore<D>> {
 }
 
 impl<S: Alter> Stable for SqlStable<S> {
-    ghost use Rattle.std.specs.Prelude.{None};
+    ghost use Rattle.std.specs.Prelude.{None, []};
     ghost use Rattle.sqlite.specs.Held.{state};
     ghost use Rattle.sqlite.specs.State.{HasCleanDisk};
     ghost use Rattle.urb_sqlite.specs.RowReadings.{records_of};
@@ -174,6 +174,10 @@ impl<S: Alter> Stable for SqlStable<S> {
     ghost stores = { λ s pos entry answer. Unit {0} };
 
     ghost answers = { λ s answer. Unit {0} };
+
+    ghost ahead = { λ _. [] };
+
+    ghost base = { λ _. [] };
 
     fn next(&self) -> u32 {
         self.next

@@ -8,11 +8,13 @@
 -- `urb_names` come found pairs, rising pairs, and the release of names. Read the rules first:
 -- JoinedRecords, KeptRules, OwnRules, RisingRecords, and the file of `delivers`. Then read the
 -- search: FirstMisfits, the file of `count-images`, and the last four of the list below, on the
--- index. Contents and the file of `whole` are about what one store holds.
+-- index. Contents and the file of `whole` are about what one store holds. RecordsAhead,
+-- AheadStores and AheadTails are about a store that holds records ahead.
 mod Common
 pub mod AppendedElements
 pub mod ClaimedRecords
 pub mod Contents
+pub mod RecordsAhead
 pub mod JoinedRecords
 pub mod KeptRules
 pub mod LogGrowth
@@ -24,3 +26,6 @@ pub mod IndexGrowth
 mod RecordWalks
 mod EarlierFacts
 mod ReadImages
+mod QueuedRecords
+mod AheadStores
+mod AheadTails

@@ -1,12 +1,13 @@
 -- What a store that was asked to keep a draft answered, and what it holds after that. The same of a
 -- store that was asked to keep several records together.
-use Rattle.std.specs.Prelude.{IsTrue, List, Ok, Result, [], false, length, ℕ, ◌+◌, ◌≡◌}
+use Rattle.std.specs.Prelude.{IsTrue, List, Result, [], length, ℕ, ◌+◌, ◌≡◌}
 use Rattle.urb_stable.specs.Entries.{Entry}
 use Rattle.urb_stable.specs.PlacedRecords.{Placed}
+use Rattle.urb_stable.specs.RecordsAhead.{SparesAhead, TakesAhead}
 use Rattle.urb_stable.specs.StableStorage.{CountsFailures, IsAppended, IsContents, IsContentsOr, IsPlaced}
 use Rattle.urb_stable.specs.StableStorage.{KeepsTrust, LeavesDoubt, is_out_of_place}
 use Rattle.urb_stable.specs.StoredTogether.{AreAppended, IsContentsOrAll, LeavesNoRecord, MovesPlace}
-use Rattle.urb_stable.specs.StoredTogether.{is_misplaced}
+use Rattle.urb_stable.specs.StoredTogether.{StoresNothing, is_misplaced}
 use Rattle.urb_stable.specs.declared.stable.Stable.{Ghosts}
 use Rattle.urb_stable.specs.declared.stable.StoreFault.{StoreFault}
 
@@ -15,7 +16,7 @@ module _ {S A : Type 0} (g : Ghosts S A) where
   -- record. The fault is Place exactly if the store is out of place, and then nothing changes. The
   -- next position of an honest store is the one after its certain records. A stop during the call
   -- leaves what the store may have held, or its certain records followed by this one. A stop after
-  -- the call leaves what the store may hold.
+  -- the call leaves what the store may hold. If records are ahead, only the first one is stored.
   pub record Keeps (before : S) (draft : Placed) (answer : Result (Unit {0}) StoreFault)
       (after : S) : Type 0 where
     pub answers : g.stores before draft.pos draft.entry answer
@@ -34,13 +35,15 @@ module _ {S A : Type 0} (g : Ghosts S A) where
     pub counts : CountsFailures (g.failures before) (g.failures after) answer
     pub trust : KeepsTrust (g.is_clean before) (g.is_honest before) (g.is_clean after)
         (g.is_honest after) (g.is_shut after) answer
+    pub ahead : TakesAhead (g.ahead before) (g.base before) (g.ahead after) (g.base after)
+        (g.is_shut after) draft.entry answer
 
   -- The store was asked to keep these records together, the first at this position, and gave this
   -- answer, as a store promises. The fault is Place exactly if they are out of place, and then
   -- nothing changes. An empty list in place is stored, and nothing changes. The next position of an
   -- honest store is the one after its certain records. A stop during the call leaves what the store
   -- may have held, or its certain records followed by all of these. A stop after the call leaves
-  -- what the store may hold.
+  -- what the store may hold. If records are ahead, no list of records is stored in their place.
   pub record KeepsAll (before : S) (pos : ℕ) (entries : List Entry)
       (answer : Result (Unit {0}) StoreFault) (after : S) : Type 0 where
     pub placed : IsPlaced
@@ -49,9 +52,8 @@ module _ {S A : Type 0} (g : Ghosts S A) where
     pub same : IsTrue
         (is_misplaced (g.is_doubtful before) (g.place before) pos entries)
         → after ≡ before
-    pub nothing : entries ≡ []
-        → is_misplaced (g.is_doubtful before) (g.place before) pos [] ≡ false
-        → (answer ≡ Ok tt) × (after ≡ before)
+    pub nothing : entries ≡ [] → StoresNothing
+        (is_misplaced (g.is_doubtful before) (g.place before) pos []) before answer after
     pub counted : g.is_honest before → g.place before ≡ length (g.certain before) + 1
     pub appended : g.is_honest after
         → AreAppended (g.certain before) (g.certain after) entries answer
@@ -64,3 +66,5 @@ module _ {S A : Type 0} (g : Ghosts S A) where
     pub counts : CountsFailures (g.failures before) (g.failures after) answer
     pub trust : KeepsTrust (g.is_clean before) (g.is_honest before) (g.is_clean after)
         (g.is_honest after) (g.is_shut after) answer
+    pub ahead : SparesAhead (g.ahead before) (g.base before) (g.ahead after) (g.base after)
+        (g.is_shut after) entries answer

@@ -5,10 +5,14 @@ pub mod PlacedRecords
 pub mod Doubts
 pub mod StableStorage
 pub mod StoredTogether
+pub mod RecordsAhead
+pub mod KeptTails
 pub mod StoreAnswers
 pub mod StoredBatches
 pub mod KeptDrafts
+pub mod RetrievedRecords
 pub mod MemoryStores
+pub mod AheadStores
 pub mod Images
 pub mod Fitting
 pub mod internal

@@ -1,6 +1,6 @@
 -- Records that a store keeps together: all of them or none.
 use Rattle.std.specs.Prelude.{◌≡◌, ◌⊎◌, ℕ, ◌==◌, ◌||◌, ◌+◌, ◌++◌, Bool, true, false, not, nat_lt}
-use Rattle.std.specs.Prelude.{List, length, Option, None, Result, IfErr, OnOk, OnErr}
+use Rattle.std.specs.Prelude.{List, length, Option, None, Result, Ok, IfErr, OnOk, OnErr}
 use Rattle.urb_stable.specs.Entries.{Entry}
 use Rattle.urb_stable.specs.StableStorage.{IsContents, is_place}
 use Rattle.urb_stable.specs.declared.stable.StoreFault.{StoreFault}
@@ -11,6 +11,11 @@ use Rattle.urb_stable.specs.declared.stable.StoreFault.{StoreFault}
 abbrev pub is_misplaced : Bool → ℕ → ℕ → List Entry → Bool
 is_misplaced doubtful next pos entries =
     doubtful || (not (pos == next) || nat_lt 4294967295 (next + length entries))
+
+-- an empty list that isn't out of place is stored, and nothing changes
+abbrev pub StoresNothing : {S : Type 0} → Bool → S → Result (Unit {0}) StoreFault → S → Type 0
+StoresNothing is_misplaced old result new =
+    is_misplaced ≡ false → (result ≡ Ok tt) × (new ≡ old)
 
 -- What storing records together does to the certain ones (`old` before it, `new` after it). After
 -- Ok these records follow them, in order. After a fault they are as before.

@@ -1,6 +1,8 @@
 pub mod MemoryCalls
 pub mod MemoryInvariant
 pub mod BatchInvariant
+pub mod RecordQueues
+pub mod AheadCalls
 pub mod BrokenRules
 pub mod Indexes
 pub mod EarlierRecords

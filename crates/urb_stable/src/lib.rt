@@ -25,10 +25,20 @@
 //! }
 //! ```
 //!
+//! An `AheadStore` does the same inside a store. Whoever stores the records later needs no batch:
+//!
+//! ```text
+//! let mut store = AheadStore::new(alloc, store);         // over any other store
+//! store.store_ahead(&mut records)?;                      // all of them are stored, or none
+//! draft.keep(&mut store)                                 // the first record ahead is stored already
+//! ```
+//!
 //! `Stable` is the contract of every storage. `MemStable` is a storage in memory, which can be
 //! armed to fail. Nothing here removes or changes a stored record.
 #![tactic(auto)]
 
+mod ahead_calls;
+mod ahead_store;
 mod doubt;
 mod draft;
 mod earlier_records;
@@ -38,9 +48,11 @@ mod index;
 mod memory;
 mod receipt;
 mod record;
+mod record_queue;
 mod stable;
 mod stored_batch;
 
+pub use ahead_store::AheadStore;
 pub use doubt::Doubt;
 pub use draft::Draft;
 pub use fitting::{Images, Misfit};

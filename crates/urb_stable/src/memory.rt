@@ -152,6 +152,10 @@ impl<A: Allocator + Copy> Stable for MemStable<A> {
 
     ghost answers = { Retrieves };
 
+    ghost ahead = { λ _. [] };
+
+    ghost base = { λ _. [] };
+
     fn next(&self) -> u32 {
         self.certain + 1
     }

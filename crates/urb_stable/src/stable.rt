@@ -1,5 +1,5 @@
 //! Stable storage: the contract of every store.
-ghost use Rattle.std.specs.Prelude.{◌≡◌, ◌+◌, List, [], ℕ, Bool, false, Option, Result, Ok, length};
+ghost use Rattle.std.specs.Prelude.{◌≡◌, ◌+◌, List, [], ℕ, Bool, false, Option, None, Result, Ok, length};
 ghost use Rattle.std.specs.Prelude.{IsTrue};
 ghost use Rattle.urb_stable.specs.Entries.{Entry};
 ghost use Rattle.urb_stable.specs.declared.stable.StoreFault.{StoreFault as Fault};
@@ -9,6 +9,9 @@ ghost use Rattle.urb_stable.specs.StableStorage.{KeepsTrust, list_in, IsRetrieve
 ghost use Rattle.urb_stable.specs.StableStorage.{IsAllowedFault, StaysShut};
 ghost use Rattle.urb_stable.specs.StoredTogether.{is_misplaced, AreAppended, LeavesNoRecord};
 ghost use Rattle.urb_stable.specs.StoredTogether.{MovesPlace, IsContentsOrAll, LeavesNoMore};
+ghost use Rattle.urb_stable.specs.StoredTogether.{StoresNothing};
+ghost use Rattle.urb_stable.specs.RecordsAhead.{HoldsAhead, KeepsAhead, MayHoldAhead, SparesAhead};
+ghost use Rattle.urb_stable.specs.RecordsAhead.{StandsStill, StaysTrusted, TakesAhead};
 
 use crate::Record;
 use std::alloc::{AllocError, AllocFailed, Allocator};
@@ -120,10 +123,19 @@ pub trait Stable {
     /// What a retrieve may answer.
     ghost answers: { Self → Result (List Entry) Fault → Type 0 };
 
+    /// The records that the storage holds already, after those that it has given out. Most storages
+    /// have none.
+    ghost ahead: { Self → List Entry };
+
+    /// The records that those ahead follow. If none are ahead, it may be any list.
+    ghost base: { Self → List Entry };
+
     /// The position of the next record, from 1.
     fn next(&self) -> u32
         ensures value { result ≡ place self.now }
-        ensures counted { is_honest self.now → result ≡ length (certain self.now) + 1 };
+        ensures counted { is_honest self.now → result ≡ length (certain self.now) + 1 }
+        // A record is in doubt only if a retrieve must come first.
+        ensures sure { is_doubtful self.now ≡ false → doubt self.now ≡ None };
 
     /// Whether a record may follow the certain ones, so that nothing more is stored before a
     /// `retrieve`.
@@ -156,7 +168,10 @@ pub trait Stable {
         // If the storage has ever returned something other than what was written, it never counts
         // as clean again. A clean storage that was honest stays honest or is shut.
         ensures trust { KeepsTrust (is_clean self.old) (is_honest self.old) (is_clean self.new)
-            (is_honest self.new) (is_shut self.new) result };
+            (is_honest self.new) (is_shut self.new) result }
+        // If records are ahead, only the first of them is stored.
+        ensures ahead { TakesAhead (ahead self.old) (base self.old) (ahead self.new) (base self.new)
+            (is_shut self.new) entry.now result };
 
     /// Appends all these records to the others, the first at this position, or none of them. After
     /// `Place` nothing has changed: the position isn't the next one, a `retrieve` must come first,
@@ -175,9 +190,8 @@ pub trait Stable {
         ensures same { IsTrue (is_misplaced (is_doubtful self.old) (place self.old) pos entries.now)
             → self.new ≡ self.old }
         // An empty list in place is stored by doing nothing.
-        ensures nothing { entries.now ≡ []
-            → is_misplaced (is_doubtful self.old) (place self.old) pos [] ≡ false
-            → (result ≡ Ok tt) × (self.new ≡ self.old) }
+        ensures nothing { entries.now ≡ [] → StoresNothing
+            (is_misplaced (is_doubtful self.old) (place self.old) pos []) self.old result self.new }
         // All records are certain after `Ok`, and none of them after a fault.
         ensures appended { is_honest self.new
             → AreAppended (certain self.old) (certain self.new) entries.now result }
@@ -187,9 +201,8 @@ pub trait Stable {
         ensures moved { MovesPlace (place self.old) (place self.new) (length entries.now) result }
         // A stop, even during this call, leaves what the storage may hold, or its certain records
         // followed by all of these.
-        ensures stop { is_honest self.old
-            → is_clean self.new
-            → leaves_only self.new (IsContentsOrAll entries.now (certain self.old) (doubt self.old)) }
+        ensures stop { is_honest self.old → is_clean self.new → leaves_only self.new
+            (IsContentsOrAll entries.now (certain self.old) (doubt self.old)) }
         ensures rest { is_honest self.new
             → leaves_only self.new (IsContents (certain self.new) (doubt self.new)) }
         // `Device` comes only if the count of failures rose.
@@ -197,10 +210,13 @@ pub trait Stable {
         // If the storage has ever returned something other than what was written, it never counts
         // as clean again. A clean storage that was honest stays honest or is shut.
         ensures trust { KeepsTrust (is_clean self.old) (is_honest self.old) (is_clean self.new)
-            (is_honest self.new) (is_shut self.new) result };
+            (is_honest self.new) (is_shut self.new) result }
+        // If records are ahead, no list of records is stored in their place.
+        ensures ahead { SparesAhead (ahead self.old) (base self.old) (ahead self.new)
+            (base self.new) (is_shut self.new) entries.now result };
 
-    /// Returns all records, which are certain from then on. A failed retrieve changes nothing but
-    /// the count of failures.
+    /// Returns all records, which are certain from then on. Records ahead aren't among them. A failed
+    /// retrieve changes nothing but the count of failures.
     fn retrieve(
         &mut self,
         alloc: Self::Alloc,
@@ -218,9 +234,8 @@ pub trait Stable {
         ensures allowed { IsAllowedFault (is_honest self.old) (is_shut self.old) (is_clean self.new)
             (is_honest self.new) (list_in result) }
         // A stop, even during this call, leaves what the storage may hold.
-        ensures stop { is_honest self.old
-            → is_clean self.new
-            → leaves_only self.new (IsContents (certain self.old) (doubt self.old)) }
+        ensures stop { is_honest self.old → is_clean self.new → leaves_only self.new
+            (IsContents (certain self.old) (doubt self.old)) }
         ensures rest { is_honest self.new
             → leaves_only self.new (IsContents (certain self.new) (doubt self.new)) }
         // `Device` comes only if the count of failures rose.
@@ -234,5 +249,39 @@ pub trait Stable {
         ensures refuses { StaysShut (is_shut self.old) (is_clean self.new) (is_shut self.new)
             (list_in result) }
         ensures lasts { is_clean self.new
-            → LeavesNoMore (leaves_only self.old) (leaves_only self.new) };
+            → LeavesNoMore (leaves_only self.old) (leaves_only self.new) }
+        // The records ahead stay.
+        ensures ahead { KeepsAhead (ahead self.old) (base self.old) (ahead self.new)
+            (base self.new) };
+
+    /// Holds these records ahead, behind those that it has given out, before their node drafts them.
+    /// The storage keeps all of them by one call, or none. Each later `store` of the first one ahead
+    /// gives it out. Unless the answer is `Place`, it takes the records out of the list.
+    ///
+    /// `Place`: the store holds no records ahead, or can't hold these now, and nothing has changed.
+    /// After any other fault the next `store` fails, and a later opening finds none of the records
+    /// or all of them.
+    fn store_ahead(
+        &mut self,
+        _records: &mut Vec<Record<Message<Self::Alloc>>, Self::Alloc>,
+    ) -> Result<(), StoreFault>
+        // What the storage has given out is as before.
+        ensures still { StandsStill (place self.old) (is_doubtful self.old) (doubt self.old)
+            (place self.new) (is_doubtful self.new) (doubt self.new) }
+        ensures certain { is_honest self.new → certain self.new ≡ certain self.old }
+        // A failure shuts no storage that has returned what was written: the next store fails.
+        ensures trust { StaysTrusted (is_clean self.old) (is_honest self.old) (is_clean self.new)
+            (is_honest self.new) }
+        // `Device` comes only if the count of failures rose.
+        ensures counts { CountsFailures (failures self.old) (failures self.new) result }
+        // After `Place` nothing has changed. Else the records are ahead, and a stop leaves no more
+        // than before, or all of them too.
+        ensures holds { MayHoldAhead self.old self.new
+            (HoldsAhead _records.old.items (ahead self.new) (certain self.old) (base self.new)
+            (is_honest self.old) (is_honest self.new
+            → leaves_only self.new (IsContents (certain self.new) (doubt self.new))))
+            result }
+    {
+        Err(StoreFault::Place(self.next()))
+    }
 }

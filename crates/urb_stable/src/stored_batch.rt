@@ -17,7 +17,7 @@ pub struct StoredBatch<A: Allocator = Global> {
     node: NodeId,
     // The position of the next record to be claimed.
     next: u32,
-    // All records, of which so many are claimed.
+    // All records. The first `claimed` of them are claimed.
     records: Vec<Record<Message<A>>, A>,
     claimed: usize,
 }

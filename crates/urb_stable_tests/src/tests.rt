@@ -1,5 +1,6 @@
 //! Calls on a store in memory, with and without failures, and refused allocations.
 
+mod ahead;
 mod batches;
 mod calls;
 mod fitting;

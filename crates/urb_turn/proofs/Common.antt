@@ -16,7 +16,7 @@ pub use Rattle.urb_group.specs.GroupCalls.{Answers, ComesUp, Commits, GoesDown, 
 pub use Rattle.urb_group.specs.GroupViews.{GroupView, IsSound, Shows, view_of}
 pub use Rattle.urb_group.specs.ReportedStates.{state_of}
 pub use Rattle.urb_group.specs.StoreContents.{IsLasting, IsStoreOf, LeavesOf}
-pub use Rattle.urb_group.specs.StoreQuestions.{Gives}
+pub use Rattle.urb_stable.specs.RetrievedRecords.{Gives}
 pub use Rattle.urb_group.specs.declared.taken.Taken.{Taken}
 pub use Rattle.urb_names.specs.CarriedPackets.{Carried}
 pub use Rattle.urb_names.specs.LabelsAndContents.{Label, Limits}

@@ -6,7 +6,7 @@ use Rattle.urb_turn.proofs.Common.{IsStoreAfter, IsTrue, Job, List, LoanEnds, Lo
 use Rattle.urb_turn.proofs.Common.{None, Option, Shows, Some, Stage, Stores, TurnView, World, []}
 use Rattle.urb_turn.proofs.Common.{after, ap, arith, eq-eqb, eqb-true, events_in, events_until}
 use Rattle.urb_turn.proofs.Common.{false, false≢true, get_or-set_other, get_or-set_same}
-use Rattle.urb_turn.proofs.Common.{if◌then◌else◌, inl, inr, length, map, refl, replicate, runs_at}
+use Rattle.urb_turn.proofs.Common.{if◌then◌else◌, inl, inr, length, refl, replicate, runs_at}
 use Rattle.urb_turn.proofs.Common.{slice_index_or, slice_set, subst, suc, sym, true, zero, ℕ}
 use Rattle.urb_turn.proofs.Common.{⊎_elim, ◌&&◌, ◌++◌, ◌+◌, ◌-◌, ◌<◌, ◌==◌, ◌∙◌, ◌∷◌, ◌≡◌, ◌≢◌, ◌≤◌}
 use Rattle.urb_turn.proofs.Common.{◌⊎◌}
@@ -121,6 +121,14 @@ finishes_on opened m ends old new turn done node runs begun finishes are all =
     (λ n other. ends-rest n m other turn.job runs begun.0 begun.1 old new begun.2 turn.stage
     begun.3 (done.events - turn.events) done.reply done.status done.settling begun.5 begun.6
     finishes) (finished_end old new turn.loan done.ran done.loans are) all
+
+-- a look at the House, which changes nothing, by the worker of node m
+pub looked_on : (m : ℕ) (ends : LoanEnds) (old new : HouseView) (end : Option (List Event))
+    → 0 < m → new ≡ old → IfSome end (λ e. e ≡ old.past) → AllRest ends old.past
+    → AllRest (slice_set ends (m - 1) end) new.past
+looked_on m ends old new end node same is all =
+    subst (λ (h : HouseView). AllRest (slice_set ends (m - 1) end) h.past) (sym same)
+    (loan_over m ends old.past old.past end node (λ n other. rests-none n old.past) is all)
 
 -- ---- what a worker knows
 

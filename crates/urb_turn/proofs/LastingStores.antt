@@ -4,7 +4,7 @@ use Rattle.urb_turn.proofs.Common.{Down, Entry, Err, Ghosts, Gives, IsLasting, I
 use Rattle.urb_turn.proofs.Common.{IsStoreOf, Keeps, LeavesOf, List, MayLeave, Node, Ok, Option}
 use Rattle.urb_turn.proofs.Common.{Placed, Ready, Result, Some, Stays, StoreFault, [], ap, doubt}
 use Rattle.urb_turn.proofs.Common.{false, false≢true, inl, inr, is_down, leaves-draft, leaves-stay}
-use Rattle.urb_turn.proofs.Common.{subst, sym, true, ⊎_elim, ◌++◌, ◌∙◌, ◌∷◌, ◌≡◌, ◌⊎◌}
+use Rattle.urb_turn.proofs.Common.{subst, sym, true, ⊎_elim, ◌++◌, ◌∙◌, ◌∷◌, ◌≡◌}
 use Rattle.urb_group.proofs.stops.SecuredClusters.{lasting-honest, lasting-known, read-honest}
 use Rattle.urb_group.proofs.stops.SecuredClusters.{still-down}
 use Rattle.urb_group.proofs.stops.StockedClusters.{leaves-held, left-by-draft, lost, rose, took}

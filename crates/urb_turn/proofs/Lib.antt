@@ -3,14 +3,16 @@
 -- and what is reported is true.
 -- WaitingNodes comes first: it says what other workers may do to a node meanwhile, which is to
 -- crash it. LastingStores says what each answer of a store leaves of a node and its store.
+-- FollowingTails says that the records ahead may still follow those of the node.
 -- StoreKeeping puts them together in the main lemmas `turn-keeps` and `turn-leaves`. TurnSteps
 -- makes one turn of its parts (`whole`), and OtherNodes says that other nodes only rest
 -- (`others-rest`). LastLoans makes a fact of it: a worker knows when it gave the House back last,
 -- and its node has rested since then (`turn_since`).
 -- Then read what a turn reports. Reported changes have happened (`reported-so`,
 -- ReportedChanges), and events are counted (`ends_count`, EventCounts). LentFeeds is about the
--- feeds of a House. The folder `steps` of `urb_world` says what an event does, and the folders
--- `stops` of `urb_world` and `urb_group` say what a stop does.
+-- feeds of a House, and HeldTails about records that a store is asked to hold ahead. The folder
+-- `steps` of `urb_world` says what an event does, and the folders `stops` of `urb_world` and
+-- `urb_group` say what a stop does.
 mod Common
 pub mod EventCounts
 pub mod EventNodes
@@ -19,9 +21,12 @@ pub mod TurnLoans
 pub mod SeenEvents
 pub mod LastingStores
 pub mod WaitingNodes
+pub mod FollowingTails
 pub mod StoreKeeping
 pub mod TurnSteps
 pub mod OtherNodes
 pub mod LastLoans
+pub mod HeldTails
 pub mod ReportedChanges
 pub mod LentFeeds
+pub mod NewTails

@@ -21,7 +21,9 @@ use Rattle.urb_group.specs.declared.state.State.{State}
 use Rattle.urb_turn.proofs.GrowingPasts.{settled_past}
 use Rattle.urb_turn.proofs.LastingStores.{stays}
 use Rattle.urb_turn.proofs.TurnSteps.{goes_on, goes_still}
-use Rattle.urb_turn.proofs.WaitingNodes.{elsewhere-waited, waited-stays}
+use Rattle.urb_turn.proofs.FollowingTails.{tail-waits}
+use Rattle.urb_turn.proofs.WaitingNodes.{Waited, elsewhere-waited, waited-stays}
+use Rattle.urb_turn.specs.NodeStores.{WouldHaveTail}
 use Rattle.urb_turn.specs.Stages.{state_reply, status_reply}
 use Rattle.urb_group.specs.declared.reply.Reply.TheVariants as reply
 use Rattle.urb_group.specs.declared.state.State.TheVariants as state
@@ -210,14 +212,19 @@ others-rest g opened n m j before after came turn runs other = (
 
 -- ---- the store of a node that rests
 
+-- from the earlier world to the later one
+rested-world : (n : ℕ) (earlier later : List Event) (start : World) → HasRested n earlier later
+    → Waited n (after start earlier) (after start later)
+rested-world n earlier later start h =
+    subst (λ (w : World). Waited n (after start earlier) w)
+    (sym (ap (after start) h.later_is ∙ after-append start earlier h.between))
+    (elsewhere-waited n h.between (after start earlier) h.elsewhere)
+
 -- the node after the later events
 rested-node : (n : ℕ) (earlier later : List Event) (start : World) → HasRested n earlier later
     → Stays ((after start earlier).node n) ((after start later).node n)
 rested-node n earlier later start h =
-    subst (λ (w : World). Stays ((after start earlier).node n) (w.node n))
-    (sym (ap (after start) h.later_is ∙ after-append start earlier h.between))
-    (waited-stays n (after start earlier) (after (after start earlier) h.between)
-    (elsewhere-waited n h.between (after start earlier) h.elsewhere))
+    waited-stays n (after start earlier) (after start later) (rested-world n earlier later start h)
 
 module _ {S A : Type 0} (g : Ghosts S A) (start : World) (n : ℕ)
     (earlier later : List Event) (store : S) (rested : HasRested n earlier later) where
@@ -227,13 +234,26 @@ module _ {S A : Type 0} (g : Ghosts S A) (start : World) (n : ℕ)
       let kept =
       stays g ((after start earlier).node n) ((after start later).node n) store
       (rested-node n earlier later start rested) (h.contents, h.lasting) in
-      record { contents = kept.0; lasting = kept.1 }
+      record {
+        contents = kept.0;
+        lasting = kept.1;
+        tail =
+            tail-waits g (after start earlier) (after start later) n store
+            (rested-world n earlier later start rested) h.tail;
+      }
 
   -- while a node rests, a stop leaves in its store what it may leave of the node
   pub rested-leaves : LeavesAfter g start earlier n store → LeavesAfter g start later n store
   rested-leaves h clean =
       leaves-stay g ((after start earlier).node n) ((after start later).node n) store
       (rested-node n earlier later start rested) (h clean)
+
+  -- while a node rests, the records ahead may still follow its own
+  pub rested-tail : WouldHaveTail g (after start earlier) n store
+      → WouldHaveTail g (after start later) n store
+  rested-tail h =
+      tail-waits g (after start earlier) (after start later) n store
+      (rested-world n earlier later start rested) h
 
 -- ---- a stop of all nodes
 

@@ -28,6 +28,7 @@ use Rattle.urb_stable.specs.Entries.{name_of}
 use Rattle.urb_stable.specs.StableStorage.{list_in}
 use Rattle.urb_turn.proofs.LastingStores.{asked-still, gives-rose, gives-unread, keeps-late}
 use Rattle.urb_turn.proofs.LastingStores.{keeps-lost, keeps-took, left-of-draft, stays}
+use Rattle.urb_turn.proofs.FollowingTails.{tail-given, tail-kept, tail-steps, tail-waits}
 use Rattle.urb_turn.proofs.GrowingPasts.{settled_past}
 use Rattle.urb_turn.proofs.WaitingNodes.{FellWith, HasWaited, HoldsAt, IsWorldOf, Waits, crash-held}
 use Rattle.urb_turn.proofs.WaitingNodes.{down-commits, down-fails, held-commits, held-fails}
@@ -36,6 +37,7 @@ use Rattle.urb_group.specs.declared.state.State.TheVariants as state
 use Rattle.urb_group.specs.declared.taken.Taken.TheVariants as taken
 use Rattle.urb_names.specs.declared.refusal.Refusal.TheVariants as refusal
 use Rattle.urb_node.specs.Part as part
+use Rattle.urb_turn.specs.NodeStores.{WouldHaveTail}
 use Rattle.urb_turn.specs.Settlings as settlings
 use Rattle.urb_turn.specs.declared.job.Job.TheVariants as job
 use Rattle.urb_turn.specs.declared.turn_stages.Stage.TheVariants as stage
@@ -85,12 +87,14 @@ module _ {S A : Type 0} (g : Ghosts S A) (start : World) (n : ℕ) where
     pub ties : IsWorldOf start house world
     pub contents : IsStoreOf g (world.node n) store
     pub lasting : IsLasting g (world.node n) store
+    pub tail : WouldHaveTail g world n store
 
   -- in some world of the house, a stop leaves in the store what it may leave of node n
   pub record LeavesAt (house : HouseView) (store : S) : Type 0 where
     pub world : World
     pub ties : IsWorldOf start house world
     pub left : g.is_clean store → LeavesOf g (world.node n) store
+    pub tail : WouldHaveTail g world n store
 
   -- the store after all events of a house is that of its world
   pub to-world : (house : HouseView) (store : S) → Shows house.group (after start house.past)
@@ -101,6 +105,7 @@ module _ {S A : Type 0} (g : Ghosts S A) (start : World) (n : ℕ) where
         ties = record { led = refl; shows = shows };
         contents = h.contents;
         lasting = h.lasting;
+        tail = h.tail;
       }
 
   -- and the other way round
@@ -110,6 +115,7 @@ module _ {S A : Type 0} (g : Ghosts S A) (start : World) (n : ℕ) where
       record {
         contents = subst (λ (w : World). IsStoreOf g (w.node n) store) h.ties.led h.contents;
         lasting = subst (λ (w : World). IsLasting g (w.node n) store) h.ties.led h.lasting;
+        tail = subst (λ (w : World). WouldHaveTail g w n store) h.ties.led h.tail;
       }
 
   -- what a stop leaves after all events of a house
@@ -118,10 +124,22 @@ module _ {S A : Type 0} (g : Ghosts S A) (start : World) (n : ℕ) where
   left-from house store h clean =
       subst (λ (w : World). LeavesOf g (w.node n) store) h.ties.led (h.left clean)
 
+  -- what the store holds ahead after all events of a house
+  pub tail-from : (house : HouseView) (store : S) → LeavesAt house store
+      → WouldHaveTail g (after start house.past) n store
+  tail-from house store h = subst (λ (w : World). WouldHaveTail g w n store) h.ties.led h.tail
+
   at-world : (house : HouseView) (w : World) (store : S) → IsWorldOf start house w
-      → Store (w.node n) store → IsStoreAt house store
-  at-world house w store ties h =
-      record { world = w; ties = ties; contents = h.0; lasting = h.1 }
+      → Store (w.node n) store → WouldHaveTail g w n store → IsStoreAt house store
+  at-world house w store ties h tail =
+      record { world = w; ties = ties; contents = h.0; lasting = h.1; tail = tail }
+
+  -- the same after one event
+  at-next : (house : HouseView) (w : World) (event : Event) (store : S)
+      → IsWorldOf start house (step w event).1 → Store ((step w event).1.node n) store
+      → WouldHaveTail g w n store → IsStoreAt house store
+  at-next house w event store ties h tail =
+      at-world house (step w event).1 store ties h (tail-steps g w event n store h tail)
 
   same-house : (old new : HouseView) (store : S) → new ≡ old → IsStoreAt old store
       → IsStoreAt new store
@@ -135,6 +153,7 @@ module _ {S A : Type 0} (g : Ghosts S A) (start : World) (n : ℕ) where
         ties = retied start old new h.world group past h.ties;
         contents = h.contents;
         lasting = h.lasting;
+        tail = h.tail;
       }
 
   same-store : (house : HouseView) (before after : S) → after ≡ before → IsStoreAt house before
@@ -146,10 +165,10 @@ module _ {S A : Type 0} (g : Ghosts S A) (start : World) (n : ℕ) where
       → IsQuiet event → Steps old.group event IsTold new.group → IsEvent event old new
       → IsStoreAt old store → IsStoreAt new store
   quiet old new event IsTold store is steps next h =
-      at-world new (step h.world event).1 store
+      at-next new h.world event store
       (tied start old new event h.world h.ties (steps h.world h.ties.shows).shows next)
       (stays g (h.world.node n) ((step h.world event).1.node n) store
-      (quiet-stays h.world event is n) (h.contents, h.lasting))
+      (quiet-stays h.world event is n) (h.contents, h.lasting)) h.tail
 
   -- nothing happened to the node except a crash
   pub waited : (old new : HouseView) (store : S) → Waits start n old new → IsStoreAt old store
@@ -159,6 +178,7 @@ module _ {S A : Type 0} (g : Ghosts S A) (start : World) (n : ℕ) where
       at-world new later.world store later.ties
       (stays g (h.world.node n) (later.world.node n) store
       (waited-stays n h.world later.world later.waited) (h.contents, h.lasting))
+      (tail-waits g h.world later.world n store later.waited h.tail)
 
   -- ---- the store of a node that holds a draft
 
@@ -168,6 +188,7 @@ module _ {S A : Type 0} (g : Ghosts S A) (start : World) (n : ℕ) where
     pub ties : IsWorldOf start house world
     pub holds : HoldsAt world n draft
     pub store : Store (world.node n) before
+    pub tail : WouldHaveTail g world n before
 
   -- the same at a later moment; or the node went down meanwhile
   record Later (draft : Placed) (before : S) (house : HouseView) : Type 0 where
@@ -176,6 +197,7 @@ module _ {S A : Type 0} (g : Ghosts S A) (start : World) (n : ℕ) where
     pub store : Store node before
     pub world : World
     pub ties : IsWorldOf start house world
+    pub tail : WouldHaveTail g world n before
     pub there : is_node world.size.n n ≡ true
     pub still : (HoldsAt world n draft × (world.node n ≡ node)) ⊎ FellWith node (world.node n) draft
 
@@ -188,6 +210,7 @@ module _ {S A : Type 0} (g : Ghosts S A) (start : World) (n : ℕ) where
         store = h.store;
         world = later.world;
         ties = later.ties;
+        tail = tail-waits g h.world later.world n before later.waited h.tail;
         there = waited-there n h.world later.world later.waited h.holds.there;
         still = ⊎_elim both (λ e. inr (fell e)) later.waited.node;
       }
@@ -232,11 +255,12 @@ module _ {S A : Type 0} (g : Ghosts S A) (start : World) (n : ℕ) where
           let node =
           commit-node h.world n draft.pos draft.entry holds.cause holds.there holds.storing
           holds.position in
-          at-world new (step h.world event).1 after
+          at-next new h.world event after
           (tied start old new event h.world h.ties (at h.world h.ties.shows).shows next)
           (keeps-took g (h.world.node n) ((step h.world event).1.node n) before after draft keeps
           (subst (λ (node : Node). Store node before) (sym same) h.store)
           (ap is_down holds.storing) node.0 node.1)
+          (tail-kept g h.world n before after draft (Ok tt) keeps h.tail)
 
       fell : FellWith h.node (h.world.node n) draft → IsStoreAt new after
       fell down =
@@ -266,7 +290,8 @@ module _ {S A : Type 0} (g : Ghosts S A) (start : World) (n : ℕ) where
           same-house old new after counts
           (at-world old h.world after h.ties
           (keeps-late g h.node (h.world.node n)
-          before after draft keeps h.store h.up down.records down.down))
+          before after draft keeps h.store h.up down.records down.down)
+          (tail-kept g h.world n before after draft (Ok tt) keeps h.tail))
 
   -- the draft's failure comes
   failed : (draft : Placed) (fault : StoreFault) (before after : S) (old new : HouseView)
@@ -279,12 +304,13 @@ module _ {S A : Type 0} (g : Ghosts S A) (start : World) (n : ℕ) where
       held : HoldsAt h.world n draft × (h.world.node n ≡ h.node) → IsStoreAt new after
       held (holds, same) =
           let node = fail-node h.world n draft.entry holds.cause holds.there holds.storing in
-          at-world new (step h.world (Fail n)).1 after
+          at-next new h.world (Fail n) after
           (tied start old new (Fail n) h.world h.ties (steps h.world h.ties.shows).shows next)
           (keeps-lost g (h.world.node n)
           ((step h.world (Fail n)).1.node n) before after draft fault keeps
           (subst (λ (node : Node). Store node before) (sym same) h.store)
           (ap is_down holds.storing) node.0 node.1)
+          (tail-kept g h.world n before after draft (Err fault) keeps h.tail)
 
       fell : FellWith h.node (h.world.node n) draft → IsStoreAt new after
       fell down =
@@ -304,7 +330,8 @@ module _ {S A : Type 0} (g : Ghosts S A) (start : World) (n : ℕ) where
           same-house old new after same
           (at-world old h.world after h.ties
           (keeps-lost g h.node (h.world.node n)
-          before after draft fault keeps h.store h.up down.records down.down))
+          before after draft fault keeps h.store h.up down.records down.down)
+          (tail-kept g h.world n before after draft (Err fault) keeps h.tail))
 
   -- a submit or an arrival that drafts
   drafts-at : (first left : HouseView) (before : S) (event : Event) (draft : Placed)
@@ -328,13 +355,17 @@ module _ {S A : Type 0} (g : Ghosts S A) (start : World) (n : ℕ) where
                   subst (λ (i : ℕ). draft.pos ≡ suc (view_of left.group i).count) e holds.position
                   ∙ ap suc (shows.nodes n).count;
             };
-        store =
-            stays g (h.world.node n) (w.node n) before (quiet-stays h.world event is n)
-            (h.contents, h.lasting);
+        store = kept;
+        tail = tail-steps g h.world event n before kept h.tail;
       }
     where
       w : World
       w = (step h.world event).1
+
+      kept : Store (w.node n) before
+      kept =
+          stays g (h.world.node n) (w.node n) before (quiet-stays h.world event is n)
+          (h.contents, h.lasting)
 
       shows : Shows left.group w
       shows = (steps h.world h.ties.shows).shows
@@ -389,10 +420,10 @@ module _ {S A : Type 0} (g : Ghosts S A) (start : World) (n : ℕ) where
     read : (r : Result (Vec Entry Global) StoreFault) → node_of j ≡ n → (w : World)
         → IsWorldOf start left w
         → (down : (o : Option Entry) × ((w.node n).state ≡ part.Down o)) → is_node w.size.n n ≡ true
-        → Store (w.node n) before
+        → Store (w.node n) before → WouldHaveTail g w n before
         → Gives g before (list_in r) after → Ending (image_stage r)
         → IsStoreAt last after
-    read (Ok image) e w ties down there store gives
+    read (Ok image) e w ties down there store tail gives
         (r, between, comes, counts, settles, is_said, is_status, is_count) =
         same-past between last after (settled_group _ _ between last settling settles)
         (settled_past _ _ between last settling settles)
@@ -411,17 +442,22 @@ module _ {S A : Type 0} (g : Ghosts S A) (start : World) (n : ℕ) where
         stored : Store (later.world.node n) before
         stored = subst (λ (node : Node). Store node before) (sym is_same) store
 
+        given : WouldHaveTail g later.world n after
+        given =
+            tail-given g later.world n before after (Ok image.items) gives
+            (tail-waits g w later.world n before later.waited tail)
+
         rises : (r : Result (Unit {0}) Refusal)
             → ComesUp again.group n (Restart n image.items) r between.group
             → Counts (Restart n image.items) r again between → IsStoreAt between after
         rises (Ok up) steps next =
-            at-world between (step later.world (Restart n image.items)).1 after
+            at-next between later.world (Restart n image.items) after
             (tied start again between (Restart n image.items) later.world later.ties
             (steps later.world later.ties.shows).shows next)
             (gives-rose g (later.world.node n)
             ((step later.world (Restart n image.items)).1.node n) before after image.items gives
             (restart-node later.world n image.items down.0
-            (waited-there n w later.world later.waited there) state) stored)
+            (waited-there n w later.world later.waited there) state) stored) given
         rises (Err refused) steps same =
             same-house again between after same
             (at-world again later.world after later.ties
@@ -430,12 +466,12 @@ module _ {S A : Type 0} (g : Ghosts S A) (start : World) (n : ℕ) where
               may = may;
               up =
                   λ f. absurd (false≢true (sym f ∙ ap is_down state));
-            }) stored))
-    read (Err fault) e w ties down there store gives ends =
+            }) stored) given)
+    read (Err fault) e w ties down there store tail gives ends =
         same-house again last after ends.0
         (waited left again after waits
         (at-world left w after ties (gives-unread g (w.node n) before after fault gives
-        (ap is_down down.1) store)))
+        (ap is_down down.1) store) (tail-given g w n before after (Err fault) gives tail)))
 
     -- from the stage after a submit or an arrival
     taken-turn : (p : ℕ) (event : Event) (first : HouseView) (r : Result (Taken Global) Refusal)
@@ -555,7 +591,7 @@ module _ {S A : Type 0} (g : Ghosts S A) (start : World) (n : ℕ) where
             (ap (λ (a : HouseView). a.past) same) h.ties)
             (subst (λ (i : ℕ). (o : Option Entry) × ((h.world.node i).state ≡ part.Down o))
             here found.1) (subst (λ (i : ℕ). is_node h.world.size.n i ≡ true) here found.0)
-            (h.contents, h.lasting) gives
+            (h.contents, h.lasting) h.tail gives
             (subst (λ (s : Stage). Ends again (job.Restart p) s last said status settling count)
             leads ends)
         restarted (Some state.Ready) e stored = refused _ stored
@@ -579,6 +615,7 @@ module _ {S A : Type 0} (g : Ghosts S A) (start : World) (n : ℕ) where
       ties = h.ties;
       left =
           subst (λ (s : S). g.is_clean s → LeavesOf g (h.world.node n) s) (sym e) h.lasting.left;
+      tail = subst (λ (s : S). WouldHaveTail g h.world n s) (sym e) h.tail;
     }
 
     taken-leaves : (p : ℕ) (event : Event) (r : Result (Taken Global) Refusal) → p ≡ n
@@ -601,6 +638,7 @@ module _ {S A : Type 0} (g : Ghosts S A) (start : World) (n : ℕ) where
               leaves-draft g (drafts.world.node n) after draft.entry (ap doubt drafts.holds.storing)
               (left-of-draft g (drafts.world.node n) before after draft
               (answer_of r) keeps drafts.store (ap is_down drafts.holds.storing) clean);
+          tail = tail-kept g drafts.world n before after draft (answer_of r) keeps drafts.tail;
         }
 
     -- A stop inside a turn leaves in the store what it may leave of the node.
@@ -644,6 +682,7 @@ module _ {S A : Type 0} (g : Ghosts S A) (start : World) (n : ℕ) where
               ties = ties;
               left =
                   asked-still g (h.world.node n) before after (list_in r) gives h.lasting;
+              tail = tail-given g h.world n before after (list_in r) gives h.tail;
             }
         asked (Some state.Ready) stored = still stored.0
         asked (Some state.Storing) stored = still stored.0

@@ -1,6 +1,6 @@
 -- The loans of the House in a turn, from the moments that the House gave.
 use Rattle.urb_turn.proofs.Common.{AreLoans, Event, HouseView, IfSome, IsLoan, IsPrefix, List}
-use Rattle.urb_turn.proofs.Common.{LoanView, LoansView, None, Option, Some, ap, subst, sym, ◌∙◌}
+use Rattle.urb_turn.proofs.Common.{LoanView, LoansView, None, Option, Some, subst}
 use Rattle.urb_turn.proofs.Common.{◌≡◌}
 use Rattle.urb_turn.specs.Loans.{AreLoansOf}
 

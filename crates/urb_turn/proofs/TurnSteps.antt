@@ -1,15 +1,18 @@
 -- A turn from one stage to the next, and the whole turn.
-use Rattle.urb_turn.proofs.Common.{AreLoans, Begins, Bool, CameOf, Ends, Err, FinishedView}
+use Rattle.urb_turn.proofs.Common.{AreLoans, Begins, CameOf, Ends, Err, FinishedView}
 use Rattle.urb_turn.proofs.Common.{Finishes, Ghosts, Global, Goes, GroupView, HasBegun, HasRested}
 use Rattle.urb_turn.proofs.Common.{HouseView, IfSome, IsLedTo, IsLoan, IsSound, IsStoreAfter}
-use Rattle.urb_turn.proofs.Common.{IsTurnAt, Job, LoanView, LoansView, Ok, Option, Placed}
-use Rattle.urb_turn.proofs.Common.{Published, Shows, Stage, Status, Stores, TurnView, World, false}
+use Rattle.urb_turn.proofs.Common.{IsTurn, IsTurnAt, Job, LoanView, LoansView, Ok, Option, Placed}
+use Rattle.urb_turn.proofs.Common.{Published, Shows, Stage, Status, Stores, TurnView, World}
 use Rattle.urb_turn.proofs.Common.{false≢true, inl, inr, refl, runs_at, subst, true, ℕ, ◌-◌, ◌≡◌}
 use Rattle.urb_group.specs.declared.reply.Reply.{Reply}
-use Rattle.urb_turn.proofs.StoreKeeping.{from-world, left-from, to-world, turn-keeps, turn-leaves}
+use Rattle.urb_turn.proofs.StoreKeeping.{from-world, left-from, tail-from, to-world, turn-keeps}
+use Rattle.urb_turn.proofs.StoreKeeping.{turn-leaves}
 use Rattle.urb_turn.proofs.WaitingNodes.{rested-waits}
 use Rattle.urb_turn.proofs.TurnLoans.{loans_of}
+use Rattle.urb_turn.specs.NodeStores.{WouldHaveTail}
 use Rattle.urb_turn.specs.Stages.{is_stored}
+use Rattle.urb_world.specs.RecoveryPlans as plans
 use Rattle.urb_turn.specs.declared.turn_stages.Stage.TheVariants as stage
 
 -- ---- stages
@@ -166,6 +169,18 @@ module _ {S A : Type 0} (g : Ghosts S A) (opened : GroupView) (n : ℕ) where
           (done.events - k)) count
           (subst (λ (i : Job). Ends again i stored.stage left done.reply done.status done.settling
           (done.events - stored.events)) same ends)
+
+  -- While the store of a turn works, the records that it holds ahead may follow those of its node.
+  pub working_tail : (j : Job) (before after : S) (done : FinishedView)
+      (turn : IsTurn g opened j before after done) → runs_at n j ≡ true → (start : World)
+      → Shows opened start → IsStoreAfter g start turn.lent.past n before
+      → WouldHaveTail g (plans.after start turn.given_back.past) n after
+  working_tail j before after done turn runs start opening is =
+      tail-from g start n turn.given_back after
+      (turn-leaves g start n before after turn.lent turn.given_back turn.lent_again turn.left
+      turn.at turn.new turn.events done.reply done.status done.settling
+      (done.events - turn.events) j runs turn.begins turn.stores
+      (to-world g start n turn.lent before (turn.leads start opening) is))
 
   -- After a whole turn the store matches its node, if the node rested while the store worked.
   pub whole_keeps : (j : Job) (before after : S) (done : FinishedView)

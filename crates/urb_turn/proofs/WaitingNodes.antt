@@ -10,9 +10,12 @@ use Rattle.urb_turn.proofs.Common.{length, quiet-stays, refl, refuses, run, step
 use Rattle.urb_turn.proofs.Common.{suc, sym, true, world_after, ℕ, ⊎_elim, ◌&&◌, ◌==◌, ◌∙◌, ◌∷◌}
 use Rattle.urb_turn.proofs.Common.{◌≡◌, ◌⊎◌}
 use Rattle.std.proofs.lemmas.Bool.{and_from, cond-true, cond_both}
+use Rattle.urb_stable.proofs.KeptRules.{Grows}
 use Rattle.urb_world.proofs.steps.DraftsInSteps.{step-elsewhere}
+use Rattle.urb_world.proofs.steps.Growth.{pair-begins, step-goes_on}
 use Rattle.urb_world.proofs.steps.OneNodeStep.{updated-at}
 use Rattle.urb_world.specs.Step.{at_node}
+use Rattle.urb_world.specs.World.{stored}
 use Rattle.urb_node.proofs.RestartReplies.{same_record-same}
 use Rattle.urb_node.specs.Part.{State, Storing}
 use Rattle.urb_node.specs.Replies.{Reply}
@@ -119,9 +122,16 @@ crash-down w n down =
 
 -- ---- a node that waited
 
--- from one world to the next nothing happened to node n, except that it may have crashed
+-- each node keeps the pairs that it has stored
+pub step-grows : (w : World) (event : Event) → Grows (stored w) (stored (step w event).1)
+step-grows w event q x m h =
+    pair-begins (stored w q) (stored (step w event).1 q) ((step-goes_on w event).records q) x m h
+
+-- From one world to the next nothing happened to node n, except that it may have crashed. Other
+-- nodes may have stored more.
 pub record Waited (n : ℕ) (w v : World) : Type 0 where
   pub size : v.size ≡ w.size
+  pub grows : Grows (stored w) (stored v)
   pub node : (v.node n ≡ w.node n) ⊎ (v.node n ≡ (step w (Crash n)).1.node n)
 
 -- a node stays as it is
@@ -218,7 +228,11 @@ crash-alike n v w size e = at (is_node w.size.n n) refl
 -- a node that waited twice, one time after the other, waited all along
 pub waited-on : (n : ℕ) (w v u : World) → Waited n w v → Waited n v u → Waited n w u
 waited-on n w v u one two =
-    record { size = two.size ∙ one.size; node = ⊎_elim same crashed two.node }
+    record {
+      size = two.size ∙ one.size;
+      grows = λ q x m h. two.grows q x m (one.grows q x m h);
+      node = ⊎_elim same crashed two.node;
+    }
   where
     same : u.node n ≡ v.node n → (u.node n ≡ w.node n) ⊎ (u.node n ≡ (step w (Crash n)).1.node n)
     same e = ⊎_elim (λ f. inl (e ∙ f)) (λ f. inr (e ∙ f)) one.node
@@ -247,6 +261,7 @@ other-waited : (n : ℕ) (w : World) (event : Event) → (event_node event == n)
 other-waited n w event apart =
     record {
       size = step-size w event;
+      grows = step-grows w event;
       node = inl (step-elsewhere w event n (turned n (event_node event) apart));
     }
 
@@ -260,6 +275,7 @@ crash-waited n p w = at (p == n) refl
         let here : p ≡ n = eqb-true p n same in
         record {
           size = step-size w (Crash p);
+          grows = step-grows w (Crash p);
           node =
               inr (subst (λ (i : ℕ). (step w (Crash i)).1.node n ≡ (step w (Crash n)).1.node n)
               (sym here) refl);
@@ -279,7 +295,7 @@ event-waited n w (Restart p image) h = other-waited n w (Restart p image) h
 pub elsewhere-waited : (n : ℕ) (events : List Event) (w : World) → AreElsewhere n events
     → Waited n w (after w events)
 unfolding run
-elsewhere-waited n [] w h = record { size = refl; node = inl refl }
+elsewhere-waited n [] w h = record { size = refl; grows = λ q x m k. k; node = inl refl }
 elsewhere-waited n (event ∷ events) w h =
     waited-on n w (step w event).1 (after (step w event).1 events) (event-waited n w event h.0)
     (elsewhere-waited n events (step w event).1 h.1)

@@ -1,5 +1,9 @@
 -- Jobs, their nodes, and the workers that do them.
-use Rattle.std.specs.Prelude.{Bool, true, ℕ, ◌==◌}
+use Rattle.std.specs.Prelude.{Bool, IfSome, None, Option, false, true, ℕ, ◌==◌, ◌≡◌}
+use Rattle.urb_names.specs.PacketGrammar.{packet_of}
+use Rattle.urb_world.specs.Step.{Arrive, Event, Submit}
+use Rattle.urb_foresight.specs.ForeseenDrafts.{event_of}
+use Rattle.urb_foresight.specs.declared.waiting_call.WaitingCall.{WaitingCall}
 use Rattle.urb_turn.specs.declared.job.Job.{Job}
 use Rattle.urb_turn.specs.declared.job.Job.TheVariants as job
 
@@ -20,3 +24,22 @@ runs_at p (job.Tick q) = q == p
 runs_at p (job.Crash q) = true
 runs_at p (job.Restart q) = q == p
 runs_at p (job.Status q) = q == p
+
+-- the call of node p with this event, if the job is for p
+abbrev pub IsCall : {A : Type 0} → ℕ → Bool → Event → Option (WaitingCall A) → Type 0
+IsCall p true event called = (called ≡ None → ⊥) × IfSome called (λ call. event_of p call ≡ event)
+IsCall p false event called = called ≡ None
+
+-- The call by which the job may draft a record at node p: a submit to p, or an arrival at p.
+abbrev pub CallsAt : {A : Type 0} → ℕ → Job → Option (WaitingCall A) → Type 0
+CallsAt p (job.Submit q client number payload) called =
+    IsCall p (q == p) (Submit p (record { client = client; number = number; payload = payload }))
+    called
+CallsAt p (job.Arrive q bytes) called = IsCall p (q == p) (Arrive p (packet_of bytes.items)) called
+CallsAt p job called = called ≡ None
+
+-- whether the job crashes or restarts a node
+abbrev pub turns_over : Job → Bool
+turns_over (job.Crash p) = true
+turns_over (job.Restart p) = true
+turns_over job = false

@@ -1,5 +1,5 @@
 -- The stores of a group whose process is killed in the middle of a run.
-use Rattle.std.specs.Prelude.{List, Option, Some, slice_get, suc, ℕ, ◌≡◌}
+use Rattle.std.specs.Prelude.{List, Some, slice_get, suc, ℕ, ◌≡◌}
 use Rattle.urb_stable.specs.declared.stable.Stable.{Ghosts}
 use Rattle.urb_world.specs.Step.{Event}
 use Rattle.urb_world.specs.World.{World}

@@ -7,6 +7,7 @@ pub mod Stages
 pub mod Turns
 pub mod Changes
 pub mod NodeStores
+pub mod KeptTails
 pub mod KilledStores
 pub mod LastLoans
 pub mod WholeTurns

@@ -15,7 +15,7 @@ use Rattle.urb_stable.specs.StableStorage.{list_in, refusal_of}
 use Rattle.urb_stable.specs.declared.stable.Stable.{Ghosts}
 use Rattle.urb_stable.specs.declared.stable.StoreFault.{StoreFault}
 use Rattle.urb_node.specs.Replies.{Done}
-use Rattle.urb_group.specs.StoreQuestions.{Gives}
+use Rattle.urb_stable.specs.RetrievedRecords.{Gives}
 use Rattle.urb_group.specs.GroupCalls.{Answers, ComesUp, Commits, GoesDown, Takes, Ticks}
 use Rattle.urb_group.specs.GroupViews.{GroupView, IsSound, view_of}
 use Rattle.urb_group.specs.ReportedStates.{state_of}

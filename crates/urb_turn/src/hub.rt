@@ -5,6 +5,7 @@ ghost use Rattle.urb_group.specs.GroupViews.{Shows};
 ghost use Rattle.urb_world.specs.World.{World};
 ghost use Rattle.urb_turn.specs.Counting.{count_after, events_in};
 ghost use Rattle.urb_turn.specs.Jobs.{runs_at};
+ghost use Rattle.urb_turn.specs.KeptTails.{Prepares};
 ghost use Rattle.urb_turn.specs.NodeFeeds.{IsFeedOf, IsNextPortion};
 ghost use Rattle.urb_turn.specs.NodeStores.{IsStoreSince};
 ghost use Rattle.urb_turn.specs.WholeTurns.{Does};
@@ -19,9 +20,14 @@ use std::alloc::Global;
 use std::sync::ledger::Blank;
 use std::sync::{Mutex, MutexGuard, Wait};
 use urb_feed::Feed;
+use urb_foresight::WaitingCall;
 use urb_names::{NoMemory, NodeId, Packet};
 use urb_show::{House, HouseName};
 use urb_stable::Stable;
+
+// The least number of records that a store is asked to hold ahead. A record alone is stored as its
+// node drafts it.
+const LEAST_AHEAD: usize = 2;
 
 /// A worker calls it before its store keeps a draft, and holds no lock meanwhile. Tests use it to
 /// delay a store.
@@ -129,6 +135,51 @@ impl<K: HouseName, L: HubName> Hub<K, L> {
         let finished = tallied.finish(rt, alloc, node, turn, &mut tally);
         MutexGuard::unlock(tallied);
         (finished, tally)
+    }
+
+    /// Foresees what these calls will draft at a node, and has its store hold those records ahead.
+    /// Then one sync serves them all. If that is fewer than two records, or the node isn't ready, or
+    /// they may not follow its stored ones (`Group::may_follow`), the store isn't asked. It takes the
+    /// lock once, and the lock is free while the store works.
+    ///
+    /// Whatever the store answers, it still matches its node. If the storage failed, the node
+    /// doesn't know of it: its next turn that drafts a record takes it down. So does a draft that
+    /// differs from what was foreseen. Do the calls next, in this order, and nothing else at the
+    /// node between them.
+    pub fn keep_ahead<S: Stable<Alloc = Global>, G: Gate, R: Wait>(
+        &self,
+        rt: &R,
+        alloc: Global,
+        node: NodeId,
+        calls: &[WaitingCall<'_>],
+        store: &mut S,
+        gate: &G,
+        tally: Tally<K, L>,
+    ) -> Tally<K, L>
+        // It counts no event.
+        ensures events { result.events ≡ tally.events }
+        ensures prepares { Prepares S.Stable K.origin node store.old store.new }
+        // If the store matched the node at the end of the last loan, it matches the node after all
+        // events until this one.
+        ensures keeps { (start : World) → Shows K.origin start
+            → IsStoreSince S.Stable start tally.last node store.old
+            → IsStoreSince S.Stable start result.last node store.new }
+    {
+        let mut tally = tally;
+        let mut tallied = self.tallied.lock(rt);
+        let mut records = tallied.foresee(alloc, node, calls).into_records();
+        if records.len() < LEAST_AHEAD {
+            MutexGuard::unlock(tallied);
+            return tally;
+        }
+        let may_hold = tallied.look(node, &records, &mut tally);
+        MutexGuard::unlock(tallied);
+        if !may_hold {
+            return tally;
+        }
+        gate.before_store(node);
+        let _answer = store.store_ahead(&mut records);
+        tally
     }
 
     /// A feed of a node, of the group as it is now. It takes the lock once.

@@ -1,8 +1,9 @@
 //! What a worker can be asked to do.
 
 ghost use Rattle.std.specs.Prelude.{◌≡◌};
-ghost use Rattle.urb_turn.specs.Jobs.{node_of, runs_at};
+ghost use Rattle.urb_turn.specs.Jobs.{CallsAt, node_of, runs_at, turns_over};
 
+use urb_foresight::WaitingCall;
 use urb_names::{ClientId, NodeId, Payload};
 
 /// One thing to do at a node, for a client, a link, a timer or an operator.
@@ -52,6 +53,34 @@ impl Job {
         match self {
             Job::Crash(_) => true,
             _ => self.node() == node,
+        }
+    }
+
+    /// Whether the job crashes or restarts a node. What such a job does to a node isn't foreseen.
+    pub fn turns_over(&self) -> bool
+        ensures { result ≡ turns_over self.now }
+    {
+        matches!(self, Job::Crash(_) | Job::Restart(_))
+    }
+
+    /// The call by which the job may draft a record at a node: a submit to the node, or an arrival
+    /// there. Any other job drafts none.
+    pub fn call_at(&self, at: NodeId) -> Option<WaitingCall<'_>>
+        ensures { CallsAt at self.now result }
+    {
+        match self {
+            Job::Submit {
+                node,
+                client,
+                number,
+                payload,
+            } if *node == at => Some(WaitingCall::Submit {
+                client: *client,
+                number: *number,
+                payload,
+            }),
+            Job::Arrive { node, bytes } if *node == at => Some(WaitingCall::Arrive { bytes }),
+            _ => None,
         }
     }
 }

@@ -22,7 +22,7 @@ ghost use Rattle.urb_turn.specs.Changes.{HasChanged, change_of};
 ghost use Rattle.urb_turn.specs.Jobs.{runs_at};
 ghost use Rattle.urb_turn.specs.Views.{FinishedView};
 ghost use Rattle.urb_turn.specs.KilledStores.{AreCutAt, IsCutAt};
-ghost use Rattle.urb_turn.specs.NodeStores.{HasRested, IsStoreAfter, LeavesAfter};
+ghost use Rattle.urb_turn.specs.NodeStores.{HasRested, IsStoreAfter, LeavesAfter, WouldHaveTail};
 ghost use Rattle.urb_turn.specs.WholeTurns.{IsTurn, IsTurnAt};
 ghost use Rattle.urb_turn.specs.declared.change.Change.{Change};
 ghost use Rattle.urb_turn.specs.declared.change.Change.TheVariants.{Failed};
@@ -77,11 +77,12 @@ pub fn other_workers_let_a_node_rest<S: Stable<Alloc = Global>>()
 {}
 
 /// While a node rests, its store still matches it, and a stop leaves what it may leave of the node.
-/// Each store of an opened cluster matches its node.
+/// Each store of an opened cluster matches its node, if it holds no records ahead.
 pub fn a_store_stays_that_of_its_node<S: Stable<Alloc = Global>>()
     ensures opened { (cluster : Clustered S) (i : ℕ) (store : S)
         (secured : IsSecured S.Stable cluster)
         → slice_get cluster.stores i ≡ Some store
+        → S.ahead store ≡ []
         → IsStoreAfter S.Stable secured.stocked.world [] (suc i) store }
     ensures rests { (n : ℕ) (start : World) (earlier later : List Event) (store : S)
         → IsStoreAfter S.Stable start earlier n store
@@ -94,6 +95,25 @@ pub fn a_store_stays_that_of_its_node<S: Stable<Alloc = Global>>()
         → LeavesAfter S.Stable start earlier n store
         → HasRested n earlier later
         → LeavesAfter S.Stable start later n store }
+{}
+
+/// While a store works in a turn, and while its node rests, the records that it holds ahead may
+/// follow those of the node. So a stop is survived, though it leaves them.
+pub fn what_is_ahead_may_follow<S: Stable<Alloc = Global>>()
+    ensures idle { (start : World) (past : List Event) (n : ℕ) (store : S)
+        → IsStoreAfter S.Stable start past n store
+        → WouldHaveTail S.Stable (after start past) n store }
+    ensures working { (opened : GroupView) (start : World) (n : ℕ) (job : Job) (before kept : S)
+        (came : FinishedView)
+        (turn : IsTurn S.Stable opened job before kept came)
+        → runs_at n job ≡ true
+        → Shows opened start
+        → IsStoreAfter S.Stable start turn.lent.past n before
+        → WouldHaveTail S.Stable (after start turn.given_back.past) n kept }
+    ensures rests { (start : World) (earlier later : List Event) (n : ℕ) (store : S)
+        → WouldHaveTail S.Stable (after start earlier) n store
+        → HasRested n earlier later
+        → WouldHaveTail S.Stable (after start later) n store }
 {}
 
 /// The process may be killed at any moment of a run. The history so far led to a world. In each

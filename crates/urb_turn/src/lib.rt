@@ -7,6 +7,10 @@
 //! time. Each worker has a `Tally`: the number of its events, and when it gave the House back last.
 //! Once all tallies are returned, the Hub returns a House that has counted exactly these events.
 //!
+//! A store may hold several records ahead of their jobs. `Hub::keep_ahead` foresees what waiting
+//! calls will draft. It has the store keep those records by one call, if they may follow the stored
+//! ones of the node.
+//!
 //! How the calls go together, in a function that is generic over the names of the House and of the
 //! Hub, `K` and `L`:
 //!

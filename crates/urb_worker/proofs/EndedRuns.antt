@@ -1,8 +1,7 @@
 -- The stores at the end of a run.
 use Rattle.std.proofs.Common.{Bool, IfSome, IsTrue, List, None, Option, Some, [], arith, false}
-use Rattle.std.proofs.Common.{if◌then◌else◌, length, option_map, refl, subst, suc, sym, true, zero, ℕ}
-use Rattle.std.proofs.Common.{◌+◌, ◌∙◌, ◌∷◌}
-use Rattle.std.proofs.Common.{◌≡◌, ◌≤◌}
+use Rattle.std.proofs.Common.{if◌then◌else◌, inl, length, option_map, refl, subst, suc, sym, true}
+use Rattle.std.proofs.Common.{zero, ℕ, ◌+◌, ◌∙◌, ◌∷◌, ◌≡◌, ◌≤◌}
 use Rattle.std.specs.Prelude.{slice_get}
 use Rattle.urb_names.specs.LabelsAndContents.{Limits}
 use Rattle.urb_group.proofs.stops.StoredWorlds.{as-itself}
@@ -20,7 +19,8 @@ use Rattle.urb_stable.specs.declared.stable.Stable.{Ghosts}
 use Rattle.urb_turn.proofs.OtherNodes.{rested-store}
 use Rattle.urb_turn.specs.Counting.{TallyView}
 use Rattle.urb_turn.specs.LastLoans.{AllRestSince, RestsSince}
-use Rattle.urb_turn.specs.NodeStores.{AreStoresAfter, IsStoreAfter, IsStoreSince}
+use Rattle.urb_turn.specs.NodeStores.{AreStoresAfter, HaveTails, HoldNoneAhead, IsStoreAfter}
+use Rattle.urb_turn.specs.NodeStores.{IsStoreSince, WouldHaveTail}
 use Rattle.urb_worker.specs.ServedStores.{EndsWhole, numbers_from}
 use Rattle.urb_worker.specs.internal.ServedStores.{AllKeepUp, ClosesAt, KeepsUp}
 use Rattle.urb_world.proofs.recovery.EventPlans.{after-none}
@@ -133,9 +133,9 @@ module _ {S A : Type 0} (g : Ghosts S A) (start : World) where
 
 -- the stores of a cluster at its opening
 pub secured_stores : {S A : Type 0} (g : Ghosts S A) (cluster : Clustered S)
-    (secured : IsSecured g cluster)
+    (secured : IsSecured g cluster) (none : HoldNoneAhead g cluster.stores)
     → AreStoresAfter g secured.stocked.world [] 1 cluster.stores
-secured_stores g cluster secured =
+secured_stores g cluster secured none =
     all_after g w 1 [] cluster.stores (λ i store got.
     record {
       contents =
@@ -146,6 +146,7 @@ secured_stores g cluster secured =
           subst (λ (v : World). IsLasting g (v.node (1 + i)) store) (sym (after-none w))
           (subst (λ (n : ℕ). IsLasting g (w.node n) store) (omega arith)
           (secured.lasting i store got));
+      tail = λ clean. inl (none i store got);
     })
   where
     w : World
@@ -153,23 +154,38 @@ secured_stores g cluster secured =
 
 -- A stop after a run's end leaves in each store what it may leave of its node.
 pub leaves_would : {S A : Type 0} (g : Ghosts S A) (cluster : Clustered S) (lasts : List S)
-    (secured : IsSecured g cluster) (ended : EndsWhole g cluster.group cluster.stores lasts)
+    (secured : IsSecured g cluster) (none : HoldNoneAhead g cluster.stores)
+    (ended : EndsWhole g cluster.group cluster.stores lasts)
     → WouldLeave g (after secured.stocked.world ended.history) lasts
-leaves_would g cluster lasts secured ended i store got clean =
+leaves_would g cluster lasts secured none ended i store got clean =
     subst (λ (n : ℕ). LeavesOf g ((after w ended.history).node n) store) (omega arith)
     ((one_after g w 1 ended.history lasts
-    (ended.stores w secured.stocked.shows (secured_stores g cluster secured)) i store
+    (ended.stores w secured.stocked.shows (secured_stores g cluster secured none)) i store
     got).lasting.left clean)
+  where
+    w : World
+    w = secured.stocked.world
+
+-- If a run came to its end, what each store holds ahead may follow its node's records.
+pub tails_would : {S A : Type 0} (g : Ghosts S A) (cluster : Clustered S) (lasts : List S)
+    (secured : IsSecured g cluster) (none : HoldNoneAhead g cluster.stores)
+    (ended : EndsWhole g cluster.group cluster.stores lasts)
+    → HaveTails g (after secured.stocked.world ended.history) lasts
+tails_would g cluster lasts secured none ended i store got =
+    subst (λ (n : ℕ). WouldHaveTail g (after w ended.history) n store) (omega arith)
+    (one_after g w 1 ended.history lasts
+    (ended.stores w secured.stocked.shows (secured_stores g cluster secured none)) i store
+    got).tail
   where
     w : World
     w = secured.stocked.world
 
 -- A run that came to its end leaves what the next start takes.
 pub leaves_stopped : {S A : Type 0} (g : Ghosts S A) (cluster : Clustered S) (limits : Limits)
-    (lasts : List S) (secured : IsSecured g cluster)
+    (lasts : List S) (secured : IsSecured g cluster) (none : HoldNoneAhead g cluster.stores)
     (ended : EndsWhole g cluster.group cluster.stores lasts) → cluster.group.size.n ≤ limits.n
     → HasStopped g ended.group (after secured.stocked.world ended.history) limits lasts
-leaves_stopped g cluster limits lasts secured ended nodes =
+leaves_stopped g cluster limits lasts secured none ended nodes =
     record {
       sound = ended.sound;
       counted = ended.nodes ∙ sym ended.size;
@@ -186,4 +202,4 @@ leaves_stopped g cluster limits lasts secured ended nodes =
     w = secured.stocked.world
 
     all : AreStoresAfter g w ended.history 1 lasts
-    all = ended.stores w secured.stocked.shows (secured_stores g cluster secured)
+    all = ended.stores w secured.stocked.shows (secured_stores g cluster secured none)

@@ -5,6 +5,7 @@
 -- SentPackets is about the packets of a reply. The proofs of `urb_turn` say what one turn does.
 pub mod SentPackets
 pub mod ServedStores
+pub mod TicketBatches
 pub mod EndedRuns
 pub mod NodeFeeds
 pub mod Pulses

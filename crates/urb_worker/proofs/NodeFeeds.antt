@@ -1,6 +1,7 @@
 -- The jobs of a feed.
-use Rattle.std.proofs.Common.{Bool, List, None, Option, Some, [], arith, false, if◌then◌else◌}
-use Rattle.std.proofs.Common.{length, refl, subst, true, ℕ, ◌<◌, ◌≡◌, ◌∷◌}
+use Rattle.std.proofs.Common.{Bool, IsSome, List, None, Option, Some, [], arith, false, if◌then◌else◌}
+use Rattle.std.specs.Prelude.{is_some}
+use Rattle.std.proofs.Common.{length, refl, subst, true, ℕ, ◌++◌, ◌<◌, ◌≡◌, ◌∷◌}
 use Rattle.urb_feed.specs.Feeds.{FeedView}
 use Rattle.urb_names.specs.CarriedPackets.{Carried}
 use Rattle.urb_names.specs.PacketGrammar.{spelling}
@@ -8,7 +9,9 @@ use Rattle.urb_turn.specs.Changes.{change_of}
 use Rattle.urb_worker.specs.internal.OwnJobs.{Comes, DoesBoth, DoesOwn, FeedingView}
 use Rattle.urb_turn.specs.NodeFeeds.{IsNextPortion}
 use Rattle.urb_worker.specs.internal.OwnJobs.{FeedsAfter, IsNextArrival}
-use Rattle.urb_worker.specs.internal.OwnJobs.{IsOwnJob, Learns, MayDoOwn, OwnJobsView, left_of}
+use Rattle.urb_worker.specs.internal.OwnJobs.{IsOwnJob, Learns, LearnsAll, LearnsBatch, MayDoOwn}
+use Rattle.urb_worker.specs.internal.OwnJobs.{OwnJobsView, left_of}
+use Rattle.urb_worker.specs.internal.TicketBatches.{IsBatchOf}
 use Rattle.urb_worker.specs.internal.Pulses.{PulseView, pulse_after}
 use Rattle.urb_turn.specs.Views.{FinishedView}
 use Rattle.urb_turn.specs.declared.job.Job.{Job}
@@ -81,9 +84,43 @@ does_none mends n waited old new begins pulse = record {
   learns = refl;
 }
 
--- a ticket, and then its next job
+-- one more ticket of a batch
+pub learns_more : (mends : Bool) (n : ℕ) (jobs : List Job) (next : Job)
+    (old between new : OwnJobsView) → LearnsAll mends n jobs old between
+    → Learns mends false n next between new → LearnsAll mends n (jobs ++ next ∷ []) old new
+learns_more mends n [] next old between new so_far it =
+    (new, subst (λ (v : OwnJobsView). Learns mends false n next v new) so_far it, refl)
+learns_more mends n (job ∷ jobs) next old between new so_far it =
+    (so_far.0, so_far.1, learns_more mends n jobs next so_far.0 between new so_far.2 it)
+
+-- a ticket that comes alone
+pub learns_alone : (mends : Bool) (n : ℕ) (ticket : Job) (old new : OwnJobsView)
+    → Learns mends false n ticket old new → LearnsBatch mends n ticket old new
+learns_alone mends n ticket old new it = record {
+  more = [];
+  few = omega arith;
+  alone = λ feeds. refl;
+  all = (new, it, refl);
+}
+
+-- a ticket with those behind it
+pub learns_batch : (mends : Bool) (n : ℕ) (ticket : Job) (jobs : List Job) (old new : OwnJobsView)
+    → IsBatchOf ticket jobs → is_some old.feeding ≡ false → LearnsAll mends n jobs old new
+    → LearnsBatch mends n ticket old new
+learns_batch mends n ticket jobs old new batch rests all = record {
+  more = batch.0;
+  few = batch.2;
+  alone = λ feeds. absurd (at old.feeding rests feeds);
+  all = subst (λ (js : List Job). LearnsAll mends n js old new) batch.1 all;
+}
+  where
+    at : (o : Option FeedingView) → is_some o ≡ false → IsSome o → ⊥
+    at None e some = absurd (cc)
+    at (Some f) e some = absurd (cc)
+
+-- tickets, and then its next job
 pub does_both : {X : Type 0} (mends : Bool) (n : ℕ) (ticket : Job) (old between new : OwnJobsView)
-    (refused : Option X) → Learns mends false n ticket old between
+    (refused : Option X) → LearnsBatch mends n ticket old between
     → MayDoOwn mends n false between new refused → DoesBoth mends n ticket old new refused
 does_both mends n ticket old between new refused first second = record {
   between = between;

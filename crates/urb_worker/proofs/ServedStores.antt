@@ -15,8 +15,9 @@ use Rattle.urb_worker.specs.Acts.{Act, LetsOut}
 use Rattle.urb_turn.specs.Counting.{TallyView}
 use Rattle.urb_turn.specs.Loans.{events_until}
 use Rattle.urb_turn.specs.Jobs.{runs_at}
+use Rattle.urb_turn.specs.KeptTails.{Prepares}
 use Rattle.urb_turn.specs.NodeStores.{IsStoreAfter, IsStoreSince}
-use Rattle.urb_worker.specs.ServedStores.{AreServed, Continues, HasServed, IsLeftOf, Rests}
+use Rattle.urb_worker.specs.ServedStores.{AreServed, Continues, HasServed, IsLeftOf, Prepared, Rests}
 use Rattle.urb_worker.specs.ServedStores.{Serves, Works, numbers_from}
 use Rattle.urb_turn.specs.Views.{FinishedView}
 use Rattle.urb_turn.specs.WholeTurns.{Does}
@@ -56,18 +57,32 @@ module _ {S A : Type 0} (g : Ghosts S A) (opened : GroupView) (n : ℕ) where
       → HasServed g opened n a b old new
   one_job a b old new works = ∣ more a a b old old new (Rests a old) works ∣₁
 
-  -- a round with a ticket: its job, and then maybe one more
-  pub two_jobs : (job : Job) (a b c : S) (old between new : List Act)
-      → Works g opened n job a b old between → MayWork g opened n b c between new
-      → HasServed g opened n a c old new
-  two_jobs job a b c old between new first second =
-      ∣ more a b c old between new (Continues a a b old old between job (Rests a old) first) second ∣₁
-
   serves_on : (a b c : S) (start old new : List Act) → Serves g opened n a b start old
       → Serves g opened n b c old new → Serves g opened n a c start new
   serves_on a b c start old new before (Rests store acts) = before
   serves_on a b c start old new before (Continues first last next from was is job so_far works) =
       Continues a last next start was is job (serves_on a b last start old was before so_far) works
+  serves_on a b c start old new before (Prepared first last next from acts so_far prepares) =
+      Prepared a last next start acts (serves_on a b last start old acts before so_far) prepares
+
+  -- a worker that had its store hold records ahead
+  pub prepared : (before after : S) (acts : List Act) → Prepares g opened n before after
+      → HasServed g opened n before after acts acts
+  prepared before after acts prepares =
+      ∣ Prepared before before after acts acts (Rests before acts) prepares ∣₁
+
+  -- and then maybe one more job
+  pub then_own : (a b c : S) (start old new : List Act) → HasServed g opened n a b start old
+      → MayWork g opened n b c old new → HasServed g opened n a c start new
+  then_own a b c start old new before works =
+      ∥∥₁_elim before (hlevel props) (λ s. ∣ more a b c start old new s works ∣₁)
+
+  -- one more job
+  pub one_more_job : (job : Job) (a b c : S) (start old new : List Act)
+      → HasServed g opened n a b start old → Works g opened n job b c old new
+      → HasServed g opened n a c start new
+  one_more_job job a b c start old new before works =
+      ∥∥₁_elim before (hlevel props) (λ s. ∣ Continues a b c start old new job s works ∣₁)
 
   -- one more round
   pub served_on : (a b c : S) (start old new : List Act) → HasServed g opened n a b start old

@@ -7,6 +7,7 @@ use Rattle.urb_world.specs.World.{World}
 use Rattle.urb_show.specs.Pasts.{IsLedTo}
 use Rattle.urb_worker.specs.Acts.{Act, LetsOut}
 use Rattle.urb_turn.specs.Jobs.{runs_at}
+use Rattle.urb_turn.specs.KeptTails.{Prepares}
 use Rattle.urb_turn.specs.NodeStores.{AreStoresAfter}
 use Rattle.urb_turn.specs.Views.{FinishedView}
 use Rattle.urb_turn.specs.WholeTurns.{Does}
@@ -25,14 +26,18 @@ module _ {S A : Type 0} (g : Ghosts S A) (opened : GroupView) where
     pub does : Does g opened n (runs_at n job) job before after done
     pub lets_out : LetsOut old done new
 
--- The worker of node n does any number of jobs, one after the other. They leave its store so, and it
--- has let this out.
+-- The worker of node n does any number of jobs, one after the other. Between two of them it may have
+-- its store hold records ahead, and lets nothing out. This leaves its store so, and it has let this
+-- out.
 pub data Serves {S A : Type 0} (g : Ghosts S A) (opened : GroupView) (n : ℕ) :
     S → S → List Act → List Act → Type 0 where
   Rests : (store : S) (acts : List Act) → Serves g opened n store store acts acts
   Continues : (first before after : S) (start old new : List Act) (job : Job)
       → Serves g opened n first before start old → Works g opened n job before after old new
       → Serves g opened n first after start new
+  Prepared : (first before after : S) (start acts : List Act)
+      → Serves g opened n first before start acts → Prepares g opened n before after
+      → Serves g opened n first after start acts
 
 module _ {S A : Type 0} (g : Ghosts S A) (opened : GroupView) where
   -- the same, for use in clauses

@@ -4,3 +4,4 @@ pub mod WorkerOutputs
 pub mod Pulses
 pub mod OwnJobs
 pub mod Listenings
+pub mod TicketBatches

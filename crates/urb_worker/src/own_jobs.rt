@@ -1,6 +1,6 @@
 //! What a worker does besides its tickets: it feeds its node, and ticks again.
 
-ghost use Rattle.std.specs.Prelude.{◌≡◌, IfOk, None, OnErr, if◌then◌else◌};
+ghost use Rattle.std.specs.Prelude.{◌≡◌, IfOk, None, OnErr, if◌then◌else◌, is_some};
 ghost use Rattle.urb_turn.specs.Changes.{change_of};
 ghost use Rattle.urb_worker.specs.internal.OwnJobs.{Begins, FeedsAfter, IsNextArrival, IsOwnJob};
 ghost use Rattle.urb_worker.specs.internal.OwnJobs.{WaitsFor, left_of};
@@ -90,6 +90,13 @@ impl OwnJobs {
         if setting.mends {
             self.feeding = Some(Feeding::begin(setting.rt, setting.alloc, setting.hub, node));
         }
+    }
+
+    /// Whether the worker feeds its node.
+    pub(crate) fn is_feeding(&self) -> bool
+        ensures { result ≡ is_some self.now.feeding }
+    {
+        self.feeding.is_some()
     }
 
     /// How long the worker waits for a ticket. While there is something to feed, it doesn't wait.

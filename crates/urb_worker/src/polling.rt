@@ -9,6 +9,9 @@ use std::thread::Threads;
 // about as long as another node needs for a record.
 const MOST: u32 = 300;
 
+// The part of these polls that a worker spends on the tickets that a batch hopes for.
+const BATCH_PART: u32 = 6;
+
 /// How often a worker polls for tickets after each record that it stored, before it sleeps again.
 #[derive(Clone, Copy)]
 pub(crate) struct Polling {
@@ -21,6 +24,13 @@ impl Polling {
         ensures { result ≡ self.polls }
     {
         self.polls
+    }
+
+    /// The number of polls for the tickets that a batch hopes for.
+    pub(crate) fn batch_polls(self) -> u32
+        ensures { result ≤ self.polls }
+    {
+        self.polls / BATCH_PART
     }
 
     /// No polls.

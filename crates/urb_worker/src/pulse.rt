@@ -7,8 +7,8 @@ ghost use Rattle.urb_node.specs.Steps.{says_heard};
 ghost use Rattle.urb_turn.specs.declared.job.Job.TheVariants.{Tick};
 ghost use Rattle.urb_worker.specs.declared.pulse.TheConstants.{EARLY_TICKS};
 
+use crate::job_results::{is_record_stored, packets_in};
 use crate::tickets::Patience;
-use crate::worker_loop::{is_record_stored, packets_in};
 use std::marker::Model;
 use std::time::Duration;
 use urb_group::{Answer, Reply};

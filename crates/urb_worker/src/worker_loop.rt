@@ -1,131 +1,36 @@
 //! A node's worker: its tickets, one after the other.
 
-ghost use Rattle.std.specs.Prelude.{◌≡◌, ◌++◌, [], MatchOption, true};
-ghost use Rattle.urb_node.specs.Replies.{packets_in};
-ghost use Rattle.urb_group.specs.Commands.{reply_of};
+ghost use Rattle.std.specs.Prelude.{MatchOption, true};
 ghost use Rattle.urb_group.specs.GroupViews.{Shows};
 ghost use Rattle.urb_world.specs.World.{World};
-ghost use Rattle.urb_worker.specs.internal.Replies.{tells_record};
-ghost use Rattle.urb_worker.specs.internal.OwnJobs.{DoesBoth, Learns, MayDoOwn};
-ghost use Rattle.urb_worker.specs.Acts.{MaySend, Sends, reports_of};
-ghost use Rattle.urb_turn.specs.Changes.{change_of};
+ghost use Rattle.urb_worker.specs.internal.OwnJobs.{DoesBoth, Learns, LearnsAll, LearnsBatch};
+ghost use Rattle.urb_worker.specs.internal.OwnJobs.{MayDoOwn};
 ghost use Rattle.urb_turn.specs.NodeStores.{IsStoreSince};
 ghost use Rattle.urb_worker.specs.ServedStores.{HasServed, Works};
-ghost use Rattle.urb_worker.specs.internal.ServedStores.{MayWork};
+ghost use Rattle.urb_worker.specs.internal.ServedStores.{MayWork, each};
 
 use crate::WorkerSetting;
+use crate::job_results::{give_answer, is_record_stored, report_change, send_reply};
 use crate::outlets::WorkerOutlets;
 use crate::own_jobs::OwnJobs;
+use crate::ticket_batch::{BatchHopes, keep_ahead, take_waiting};
 use crate::tickets::{Closed, next_ticket};
-use crossbeam_channel::{Receiver, Sender};
+use crossbeam_channel::Receiver;
 use std::alloc::Global;
 use std::sync::Wait;
 use std::time::Clock;
-use urb_group::{Answer, Outbox, Reply};
 use urb_link::{Link, Ticket};
-use urb_names::{NoMemory, NodeId, Packet, encode_into};
+use urb_names::{NoMemory, NodeId};
 use urb_show::HouseName;
 use urb_stable::Stable;
-use urb_turn::{Finished, Gate, Hub, HubName, Job, Reporter, Settling, Silent, Tally, change_of};
+use urb_turn::{Gate, Hub, HubName, Job, Reporter, Settling, Silent, Tally};
 
-// Sends a packet to its node. If memory for its bytes is refused, the packet is lost. The buffer
-// takes the bytes.
-fn send_packet<N: Link, H: Reporter>(
-    outlets: &mut WorkerOutlets<'_, N, H>,
-    packet: &Packet,
-    buffer: &mut Vec<u8>,
-)
-    ensures { MaySend outlets.old packet.now outlets.new }
-{
-    match encode_into(packet, buffer) {
-        Ok(()) => outlets.send(packet.target(), buffer.as_slice()),
-        Err(refused) => outlets.lose(packet.target(), refused),
-    }
-}
-
-// Sends each packet to its node, in their order.
-#[tactic(auto, using(crate::proofs::SentPackets::sends_none, crate::proofs::SentPackets::sends_all))]
-fn send_packets<N: Link, H: Reporter>(
-    outlets: &mut WorkerOutlets<'_, N, H>,
-    packets: &Outbox,
-    buffer: &mut Vec<u8>,
-)
-    ensures { Sends outlets.old packets.now outlets.new }
-{
-    for index in 0..packets.len() {
-        match packets.get(index) {
-            Some(packet) => send_packet(outlets, packet, buffer),
-            None => {}
-        }
-    }
-}
-
-// Sends the packets of a reply.
-#[tactic(auto, using(crate::proofs::SentPackets::sends_nothing))]
-fn send_reply<N: Link, H: Reporter>(
-    outlets: &mut WorkerOutlets<'_, N, H>,
-    reply: &Reply,
-    buffer: &mut Vec<u8>,
-)
-    ensures { Sends outlets.old (packets_in (reply_of reply.now)) outlets.new }
-{
-    if let Some(packets) = packets_in(reply) {
-        send_packets(outlets, packets, buffer);
-    }
-}
-
-// Reports how a turn changed whether a node is up, if it did.
-fn report_change<K: HouseName, N: Link, H: Reporter>(
-    outlets: &mut WorkerOutlets<'_, N, H>,
-    finished: &Finished<K>,
-)
-    ensures { outlets.new ≡ outlets.old ++ reports_of (change_of finished.now) }
-{
-    if let Some(change) = change_of(finished) {
-        outlets.report(&change);
-    }
-}
-
-// Answers a ticket. If nobody waits for the answer, the link gets the buffer of the datagram back,
-// which knows its node.
-fn give_answer<K: HouseName, N: Link, R: Wait>(
-    rt: &R,
-    link: &N,
-    answer: Option<Sender<Finished<K>>>,
-    finished: Finished<K>,
-) {
-    if let Some(answer) = answer {
-        let _ = answer.send(rt, finished);
-    } else if let Some(datagram) = finished.into_datagram() {
-        link.take_back(datagram);
-    }
-}
-
-/// The packets of a reply: those of a stored record, of a tick, or in answer to a packet.
-pub(crate) fn packets_in(reply: &Reply) -> Option<&Outbox>
-    ensures { MatchOption result (packets_in (reply_of reply.now) ≡ [])
-        (λ packets. packets.now ≡ packets_in (reply_of reply.now)) }
-{
-    match reply {
-        Reply::Stored(done) => Some(&done.sent),
-        Reply::Sent(packets) => Some(packets),
-        Reply::Same(Answer::Answered(_, packets)) => Some(packets),
-        _ => None,
-    }
-}
-
-/// Whether a record was stored.
-pub(crate) fn is_record_stored(reply: &Reply) -> bool
-    ensures { result ≡ tells_record (reply_of reply.now) }
-{
-    matches!(reply, Reply::Stored(_))
-}
-
-// What a worker keeps between two jobs: how often it still polls, a buffer for packets, and its own
-// jobs.
+// What a worker keeps between two jobs: how often it still polls, how many tickets its last batch
+// had, a buffer for packets, and its own jobs.
 #[derive(Drop)]
 struct LoopState {
     polls: u32,
+    batch: usize,
     buffer: Vec<u8>,
     own: OwnJobs,
 }
@@ -244,10 +149,91 @@ fn do_own_job<
     }
 }
 
-// One round of a worker: it does the ticket that came, if one came, and then its next job of its
-// own. So a client's request never waits for more than one packet of a feed. If memory was refused
-// for that job, its feed has ended, and the refusal is returned.
-#[tactic(auto, using(crate::proofs::ServedStores::one_job, crate::proofs::ServedStores::two_jobs, crate::proofs::NodeFeeds::does_both))]
+// Does the tickets of a batch, one after the other. Before that, the store holds ahead what they
+// will draft.
+#[tactic(auto, using(crate::proofs::ServedStores::prepared, crate::proofs::ServedStores::one_more_job, crate::proofs::NodeFeeds::learns_more))]
+fn do_batch<
+    K: HouseName,
+    L: HubName,
+    S: Stable<Alloc = Global>,
+    N: Link,
+    G: Gate,
+    H: Reporter,
+    R: Wait + Clock,
+>(
+    setting: &WorkerSetting<'_, K, L, N, G, H, R>,
+    node: NodeId,
+    store: &mut S,
+    outlets: &mut WorkerOutlets<'_, N, H>,
+    state: &mut LoopState,
+    tickets: Vec<Ticket<K>>,
+    tally: Tally<K, L>,
+) -> Tally<K, L>
+    ensures served { HasServed S.Stable K.origin node store.old store.new
+        outlets.old outlets.new }
+    ensures keeps { (start : World) → Shows K.origin start
+        → IsStoreSince S.Stable start tally.last node store.old
+        → IsStoreSince S.Stable start result.last node store.new }
+    ensures own { LearnsAll setting.now.mends node (each tickets.items (λ ticket. ticket.job))
+        state.old.own state.new.own }
+{
+    let mut tally = keep_ahead(setting, node, store, &tickets, tally);
+    for ticket in tickets {
+        tally = do_ticket(setting, node, store, outlets, state, false, ticket, tally);
+    }
+    tally
+}
+
+// Does a ticket, and those that wait behind it. While the node is fed, it does one ticket alone.
+#[tactic(auto, using(crate::proofs::ServedStores::one_job, crate::proofs::ServedStores::works_some, crate::proofs::NodeFeeds::learns_alone, crate::proofs::NodeFeeds::learns_batch))]
+fn do_tickets<
+    K: HouseName,
+    L: HubName,
+    S: Stable<Alloc = Global>,
+    N: Link,
+    G: Gate,
+    H: Reporter,
+    R: Wait + Clock,
+>(
+    setting: &WorkerSetting<'_, K, L, N, G, H, R>,
+    node: NodeId,
+    store: &mut S,
+    outlets: &mut WorkerOutlets<'_, N, H>,
+    state: &mut LoopState,
+    jobs: &Receiver<Ticket<K>>,
+    first: Ticket<K>,
+    tally: Tally<K, L>,
+) -> Tally<K, L>
+    ensures served { HasServed S.Stable K.origin node store.old store.new
+        outlets.old outlets.new }
+    ensures keeps { (start : World) → Shows K.origin start
+        → IsStoreSince S.Stable start tally.last node store.old
+        → IsStoreSince S.Stable start result.last node store.new }
+    ensures own { LearnsBatch setting.now.mends node first.job state.old.own state.new.own }
+{
+    if state.own.is_feeding() {
+        return do_ticket(setting, node, store, outlets, state, false, first, tally);
+    }
+    let hopes = BatchHopes {
+        tickets: state.batch,
+        polls: setting.polling.batch_polls(),
+    };
+    match take_waiting(setting.rt, setting.alloc, jobs, first, hopes) {
+        Ok(tickets) => {
+            state.batch = tickets.len();
+            do_batch(setting, node, store, outlets, state, tickets, tally)
+        }
+        Err(alone) => {
+            state.batch = 1;
+            do_ticket(setting, node, store, outlets, state, false, alone, tally)
+        }
+    }
+}
+
+// One round of a worker: it does the ticket that came, if one came, with those that wait behind it.
+// Then it does its next job of its own. So a client's request never waits for more than one packet
+// of a feed. If memory was refused for that job, its feed has ended, and the refusal is returned.
+#[tactic(auto, using(crate::proofs::ServedStores::one_job, crate::proofs::ServedStores::then_own, crate::proofs::NodeFeeds::does_both))]
 fn do_round<
     K: HouseName,
     L: HubName,
@@ -262,6 +248,7 @@ fn do_round<
     store: &mut S,
     outlets: &mut WorkerOutlets<'_, N, H>,
     state: &mut LoopState,
+    jobs: &Receiver<Ticket<K>>,
     came: Option<Ticket<K>>,
     tally: Tally<K, L>,
 ) -> (Tally<K, L>, Option<NoMemory>)
@@ -276,8 +263,8 @@ fn do_round<
         result.1) }
 {
     match came {
-        Some(ticket) => {
-            let tally = do_ticket(setting, node, store, outlets, state, false, ticket, tally);
+        Some(first) => {
+            let tally = do_tickets(setting, node, store, outlets, state, jobs, first, tally);
             do_own_job(setting, node, store, outlets, state, false, tally)
         }
         None => do_own_job(setting, node, store, outlets, state, true, tally),
@@ -287,6 +274,9 @@ fn do_round<
 /// Does the same with a borrowed store, for a caller that closes the store afterwards. It also
 /// reports each node that goes down or comes back, and polls for tickets after each record that it
 /// stored, as the setting says.
+///
+/// It takes the tickets that wait, at most `MAX_BATCH` at once, and foresees what they will draft.
+/// The store holds those records ahead, by one call. So one sync serves many tickets.
 ///
 /// If the setting says so, it feeds its node: at its start, and after each restart, it lets the
 /// packets arrive that bring the node what its log lacks. Between two such packets it does a ticket,
@@ -323,6 +313,7 @@ pub fn serve_from<
     let mut tally = tally;
     let mut state = LoopState {
         polls: 0,
+        batch: 1,
         buffer: Vec::new(setting.alloc),
         own: OwnJobs::at_start(setting, node),
     };
@@ -332,7 +323,9 @@ pub fn serve_from<
             Ok(came) => came,
             Err(closed) => return (tally, closed),
         };
-        let (counted, refused) = do_round(setting, node, store, outlets, &mut state, came, tally);
+        let (counted, refused) = do_round(
+            setting, node, store, outlets, &mut state, jobs, came, tally,
+        );
         tally = counted;
         if refused.is_some() {
             setting.reporter.report_cut_feed(node);

@@ -1,5 +1,5 @@
 -- A store in memory, as one of all kinds of stores.
-use Rattle.std.specs.Prelude.{List, length, ◌+◌}
+use Rattle.std.specs.Prelude.{List, [], length, ◌+◌}
 use Rattle.urb_stable.specs.Entries.{Entry}
 use Rattle.urb_stable.specs.MemoryStores.{Memory, Retrieves, Stores}
 use Rattle.urb_stable.specs.StableStorage.{IsContents}
@@ -19,4 +19,6 @@ in_memory A = record {
   leaves_only = λ s P. (records : List Entry) → IsContents s.certain s.doubt records → P records;
   stores = λ s pos entry. Stores s pos;
   answers = Retrieves;
+  ahead = λ s. [];
+  base = λ s. [];
 }

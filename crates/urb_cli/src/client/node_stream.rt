@@ -46,7 +46,7 @@ fn connect_to<R: Net<Listener = TcpListener, Stream = TcpStream>>(
     }
 }
 
-// The stream to the node at this address, or why there is none.
+// The stream to the node at this address. A failure of the connect becomes a fault of the call.
 fn after_connect(
     at: NodeAddress<'_>,
     came: io::Result<LocalStream>,

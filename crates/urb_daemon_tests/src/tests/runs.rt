@@ -8,7 +8,7 @@ use std::test::Fail;
 use urb_cli::submit_at;
 use urb_daemon::{
     Console, Host, NetworkFault, Port, ServeFault, SocketCause, fault_of_serve, report_end,
-    run_stores,
+    run_ahead,
 };
 use urb_group::{MemStable, Record, Stable, StoreFault};
 use urb_names::{ClientId, Message, Name, NodeId, Refusal, Rule};
@@ -46,6 +46,10 @@ impl Stable for Refusing {
     ghost stores = { λ s. ⟦<MemStable as Stable>⟧.stores s.store };
 
     ghost answers = { λ s. ⟦<MemStable as Stable>⟧.answers s.store };
+
+    ghost ahead = { λ s. ⟦<MemStable as Stable>⟧.ahead s.store };
+
+    ghost base = { λ s. ⟦<MemStable as Stable>⟧.base s.store };
 
     fn next(&self) -> u32 {
         self.store.next()
@@ -174,7 +178,7 @@ where
     let mut output = io::writer(&terminal);
     let mut client = Client { rt, alloc, port };
     let mut console = Console::new(&mut output, &mut client);
-    let (stores, ended) = run_stores(rt, alloc, serving, stores, &Silent, &mut console);
+    let (stores, ended) = run_ahead(rt, alloc, serving, stores, &Silent, &mut console);
     drop(console);
     Some(Ran {
         stores,

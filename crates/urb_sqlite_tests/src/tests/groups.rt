@@ -241,9 +241,10 @@ fn what_was_told_outlives_each_stop(rt: HostRuntime) -> Result<(), Fail> {
     Ok(())
 }
 
-// What is left after a stop of all nodes over journals that stay open, after a delivery.
-fn deliver_at_places_and_reopen(alloc: Global) -> Option<Told> {
-    let mut places = places(alloc, CASES[0], u64::MAX)?;
+// What is left after a stop of all nodes over these places' journals, after a delivery. The journals
+// stay open.
+fn deliver_over<D: Disk + Drop>(alloc: Global, places: Vec<Place<D>>) -> Option<Told> {
+    let mut places = places;
     let journals = if are_opened(&mut places) {
         take_journals(alloc, &mut places)
     } else {
@@ -251,6 +252,11 @@ fn deliver_at_places_and_reopen(alloc: Global) -> Option<Told> {
     };
     drop(places);
     deliver_and_reopen(alloc, journals?)
+}
+
+// The same over new places.
+fn deliver_at_places_and_reopen(alloc: Global) -> Option<Told> {
+    deliver_over(alloc, places(alloc, CASES[0], u64::MAX)?)
 }
 
 #[test]

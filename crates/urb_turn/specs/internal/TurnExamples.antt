@@ -4,7 +4,7 @@ use Rattle.std.specs.declared.alloc.Global.{Global}
 use Rattle.urb_group.specs.GroupViews.{GroupView}
 use Rattle.urb_world.specs.MemoryStores.{in_memory}
 use Rattle.urb_world.specs.Step.{Commit, Event, Restart, Submit, Tick}
-use Rattle.urb_world.specs.World.{World, started}
+use Rattle.urb_world.specs.World.{World, image_of, opened, started}
 use Rattle.urb_group.specs.declared.reply.Reply.{Reply}
 use Rattle.urb_world.specs.internal.Examples.{flagged, limits, pending}
 use Rattle.urb_world.specs.internal.Scripts.{message}
@@ -14,6 +14,7 @@ use Rattle.urb_show.specs.declared.status.Status.{Status}
 use Rattle.urb_node.specs.Replies.{Done}
 use Rattle.urb_names.specs.Names.{name}
 use Rattle.urb_stable.specs.Doubts.{Doubted}
+use Rattle.urb_stable.specs.Entries.{Entry}
 use Rattle.urb_stable.specs.MemoryStores.{Memory, empty_memory}
 use Rattle.urb_stable.specs.PlacedRecords.{Placed}
 use Rattle.urb_stable.specs.declared.stable.Stable.{Ghosts}
@@ -34,9 +35,17 @@ memory = in_memory (Unit {0})
 abbrev pub lying : Ghosts Memory (Unit {0})
 lying = record (in_memory (Unit {0})) { is_honest = λ s. ⊥ }
 
+-- the same, of a store that has given out the first records and holds the others ahead
+abbrev pub ahead_of : (given others : List Entry) → Ghosts Memory (Unit {0})
+ahead_of given others = record (in_memory (Unit {0})) { base = λ s. given; ahead = λ s. others }
+
 -- a store that holds a pair
 abbrev pub holding : Memory
 holding = record empty_memory { certain = pending 1 1 ∷ [] }
+
+-- an empty store that may hold a pair
+abbrev pub in_two_minds : Memory
+in_two_minds = record empty_memory { doubt = Some (pending 1 1) }
 
 -- an empty store that needs a retrieve
 abbrev pub doubtful : Memory
@@ -49,6 +58,10 @@ failed_once = record empty_memory { failures = 1 }
 -- a new world of four nodes
 abbrev pub four : World
 four = started (limits 4 10)
+
+-- a world of four nodes, of which node 1 has stored a pair
+abbrev pub one_has_stored : World
+one_has_stored = opened (limits 4 10) (image_of ((pending 1 1 ∷ []) ∷ []))
 
 -- a house of this group that has published nothing, after these events
 abbrev pub house_of : GroupView → List Event → HouseView

@@ -14,6 +14,7 @@ ghost use Rattle.urb_turn.specs.Loans.{AreLoans, IsLoan};
 ghost use Rattle.urb_turn.specs.NodeFeeds.{BeginsFeed};
 ghost use Rattle.urb_turn.specs.Stages.{is_stored};
 ghost use Rattle.urb_turn.specs.Turns.{Begins, Finishes};
+ghost use Rattle.urb_turn.specs.KeptTails.{IsReadyIn, MayHold};
 ghost use Rattle.urb_turn.specs.LastLoans.{AllRestSince};
 ghost use Rattle.urb_turn.specs.internal.CountedHouses.{AreLeftSince};
 ghost use Rattle.urb_turn.specs.internal.LoanEnds.{AllRest, IsNextLoan};
@@ -27,9 +28,11 @@ use std::marker::Model;
 use std::sync::Wait;
 use std::sync::ledger::{Book, Share};
 use urb_feed::Feed;
-use urb_names::{NoMemory, NodeId, Packet};
+use urb_foresight::{Foreseen, Foresight, WaitingCall, foresee};
+use urb_group::State;
+use urb_names::{Message, NoMemory, NodeId, Packet};
 use urb_show::{House, HouseName, Moment};
-use urb_stable::Stable;
+use urb_stable::{Record, Stable, recall_records};
 
 // The House, the total of all tallies, and the share that is left when each worker has its part.
 // The House's count of events is the count with which the Hub began, plus the total. Each node has
@@ -78,6 +81,26 @@ fn end_loan<K: HouseName, L: HubName>(
 {
     last.note(place_of(node), copy_moment(&end));
     tally.end_loan(if is_known { end } else { None });
+}
+
+// Says whether a node is ready.
+#[tactic(auto, using(crate::proofs::HeldTails::is_ready))]
+fn is_ready<K: HouseName>(house: &House<K>, node: NodeId) -> bool
+    ensures { IsTrue result → IsReadyIn house.now.group node }
+{
+    matches!(house.state(node), Some(State::Ready))
+}
+
+// Says whether a node is ready, and these records may follow its stored ones.
+#[tactic(auto, using(crate::proofs::HeldTails::may_hold))]
+fn may_hold<K: HouseName>(house: &House<K>, node: NodeId, records: &[Record<Message>]) -> bool
+    ensures { IsTrue result → MayHold house.now.group node records.now }
+{
+    recall_records(records);
+    if !is_ready(house, node) {
+        return false;
+    }
+    house.group().may_follow(node, records)
 }
 
 impl<K: HouseName, L: HubName> CountedHouse<K, L> {
@@ -144,6 +167,55 @@ impl<K: HouseName, L: HubName> CountedHouse<K, L> {
         tally.count(book, turn.events());
         end_loan(last, node, tally, is_known, turn.end_of_loan());
         turn
+    }
+
+    // Foresees what these calls will draft at a node, until one of them can't be foreseen. It is a
+    // prediction: nothing rests on it.
+    pub(crate) fn foresee(
+        &self,
+        alloc: Global,
+        node: NodeId,
+        calls: &[WaitingCall<'_>],
+    ) -> Foresight {
+        let mut foresight = Foresight::new(alloc);
+        for call in calls {
+            match foresee(self.house.group(), alloc, node, &mut foresight, call) {
+                Ok(Foreseen::Draft) | Ok(Foreseen::NoDraft) => {}
+                Ok(Foreseen::Unsure) | Err(_) => return foresight,
+            }
+        }
+        foresight
+    }
+
+    // Says whether a node is ready, and these records may follow its stored ones. It is a loan
+    // without an event.
+    #[tactic(auto, using(crate::proofs::LastLoans::looked_on, crate::proofs::LastLoans::is_next_loan))]
+    pub(crate) fn look(
+        &mut self,
+        node: NodeId,
+        records: &[Record<Message>],
+        tally: &mut Tally<K, L>,
+    ) -> bool
+        ensures same { self.new.house ≡ self.old.house }
+        ensures sound { IsSound self.old.house.group }
+        ensures leads { IsLedTo K.origin self.old.house.past self.old.house.group }
+        ensures may { IsTrue result → MayHold self.old.house.group node records.now }
+        ensures tally { tally.new.events ≡ tally.old.events }
+        ensures last { IsNextLoan node tally.old.last self.old.house.past self.old.house.past
+            tally.new.last }
+    {
+        let CountedHouse {
+            house,
+            book: _,
+            rest: _,
+            last,
+        } = self;
+        house.recall();
+        let is_known = last.has_ended_at(place_of(node), tally.last());
+        let may_hold = may_hold(house, node, records);
+        let end = house.mark();
+        end_loan(last, node, tally, is_known, end);
+        may_hold
     }
 
     // Finishes a turn at the worker of a node, and counts its event.

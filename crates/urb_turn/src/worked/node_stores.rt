@@ -3,13 +3,15 @@
 //! Each of the rows that end in ⊥ breaks one rule alone.
 ghost use Rattle.std.specs.Prelude.{[], ◌∷◌, ◌≡◌, None, Some, false, true};
 ghost use Rattle.urb_world.specs.Step.{Crash, Tick};
+ghost use Rattle.urb_world.specs.internal.Examples.{pending};
 ghost use Rattle.urb_stable.specs.MemoryStores.{empty_memory};
 ghost use Rattle.urb_turn.specs.KilledStores.{AreCutAt, IsCutAt};
 ghost use Rattle.urb_turn.specs.LastLoans.{AllBegin, AllRestSince};
 ghost use Rattle.urb_turn.specs.Loans.{AreLoans, AreLoansOf, IsLoan};
 ghost use Rattle.urb_turn.specs.NodeStores.{AreElsewhere, AreStoresAfter, HasRested, IsStoreAfter};
-ghost use Rattle.urb_turn.specs.NodeStores.{is_own};
-ghost use Rattle.urb_turn.specs.internal.TurnExamples.{doubtful, four, holding, house_of_four};
+ghost use Rattle.urb_turn.specs.NodeStores.{HasTail, MayHaveTail, WouldHaveTail, is_own};
+ghost use Rattle.urb_turn.specs.internal.TurnExamples.{ahead_of, doubtful, four, holding};
+ghost use Rattle.urb_turn.specs.internal.TurnExamples.{house_of_four, in_two_minds, one_has_stored};
 ghost use Rattle.urb_turn.specs.internal.TurnExamples.{lying, memory};
 
 /// An event is a node's own if it is at this node and no crash. A node rests while it has no event
@@ -34,7 +36,33 @@ pub fn stores_of_new_nodes()
     ensures none_that_lies { IsStoreAfter lying four [] 1 empty_memory → ⊥ }
     ensures empty_ones { AreStoresAfter memory four [] 1 (empty_memory ∷ empty_memory ∷ []) }
     ensures not_one_with_a_pair { AreStoresAfter memory four [] 1 (holding ∷ []) → ⊥ }
+    ensures one_with_a_record_ahead { IsStoreAfter (ahead_of [] (pending 1 1 ∷ [])) four [] 1
+        empty_memory }
+    ensures not_one_with_a_gap_ahead { IsStoreAfter (ahead_of [] (pending 1 2 ∷ [])) four [] 1
+        empty_memory → ⊥ }
     ensures not_the_second_with_a_pair { AreStoresAfter memory four [] 1 (empty_memory ∷ holding ∷ []) → ⊥ }
+{}
+
+/// The records that a store holds ahead may follow those of its node.
+pub fn tails_of_new_nodes()
+    ensures two_records { HasTail (ahead_of [] (pending 1 1 ∷ pending 1 2 ∷ [])) four 1
+        empty_memory }
+    ensures the_second_of_two { HasTail (ahead_of (pending 1 1 ∷ []) (pending 1 2 ∷ [])) four 1
+        holding }
+    ensures a_gap { HasTail (ahead_of [] (pending 1 1 ∷ pending 1 3 ∷ [])) four 1 empty_memory
+        → ⊥ }
+    ensures behind_a_lost_record { HasTail (ahead_of [] (pending 1 2 ∷ [])) one_has_stored 1 holding
+        → ⊥ }
+    ensures behind_a_record_that_is_not_certain { HasTail
+        (ahead_of (pending 1 1 ∷ []) (pending 1 2 ∷ [])) four 1 empty_memory → ⊥ }
+    ensures behind_a_doubtful_record { HasTail (ahead_of [] (pending 1 1 ∷ [])) four 1 in_two_minds
+        → ⊥ }
+    ensures none { MayHaveTail memory four 1 holding }
+    ensures not_a_gap { MayHaveTail (ahead_of [] (pending 1 2 ∷ [])) four 1 empty_memory → ⊥ }
+    ensures a_gap_at_a_store_that_lies { WouldHaveTail
+        (record (ahead_of [] (pending 1 2 ∷ [])) { is_clean = λ s. ⊥ }) four 1 empty_memory }
+    ensures no_gap_at_a_clean_store { WouldHaveTail (ahead_of [] (pending 1 2 ∷ [])) four 1
+        empty_memory → ⊥ }
 {}
 
 /// A stop leaves in a store what it may leave of the node since the node rests.

@@ -1,7 +1,8 @@
 -- What a worker does besides its tickets: it feeds its node, and ticks early.
-use Rattle.std.specs.Prelude.{Bool, List, None, Option, Some, [], false, if◌then◌else◌, length, true}
-use Rattle.std.specs.Prelude.{ℕ, ◌&&◌, ◌==◌, ◌≡◌, ◌∷◌}
+use Rattle.std.specs.Prelude.{Bool, IsSome, List, None, Option, Some, [], false, if◌then◌else◌, length, true}
+use Rattle.std.specs.Prelude.{ℕ, ◌&&◌, ◌<◌, ◌==◌, ◌≡◌, ◌∷◌}
 use Rattle.urb_feed.specs.Feeds.{FeedView}
+use Rattle.urb_foresight.specs.declared.foresight.TheConstants.{MAX_BATCH}
 use Rattle.urb_names.specs.CarriedPackets.{Carried}
 use Rattle.urb_names.specs.PacketGrammar.{spelling}
 use Rattle.urb_turn.specs.Changes.{change_of}
@@ -109,9 +110,24 @@ MayDoOwn mends n waited old new None = DoesOwn mends n waited old new
 MayDoOwn mends n waited old new (Some refused) =
     (new.feeding ≡ None) × (new.pulse ≡ old.pulse)
 
--- a worker does a ticket, and then its next job of its own
+-- what a worker learns by the jobs of these tickets, one after the other
+abbrev pub LearnsAll : Bool → ℕ → List Job → OwnJobsView → OwnJobsView → Type 0
+LearnsAll mends n [] old new = new ≡ old
+LearnsAll mends n (next ∷ jobs) old new =
+    (between : OwnJobsView) × Learns mends false n next old between
+    × LearnsAll mends n jobs between new
+
+-- What a worker learns by a ticket's job, and by those of a few more tickets, which it takes with
+-- it. While it feeds its node, it takes one ticket alone.
+pub record LearnsBatch (mends : Bool) (n : ℕ) (ticket : Job) (old new : OwnJobsView) : Type 0 where
+  pub more : List Job
+  pub few : length more < MAX_BATCH
+  pub alone : IsSome old.feeding → more ≡ []
+  pub all : LearnsAll mends n (ticket ∷ more) old new
+
+-- A worker does a ticket, and those that wait behind it. Then it does its next job of its own.
 pub record DoesBoth {X : Type 0} (mends : Bool) (n : ℕ) (ticket : Job) (old new : OwnJobsView)
     (refused : Option X) : Type 0 where
   pub between : OwnJobsView
-  pub first : Learns mends false n ticket old between
+  pub first : LearnsBatch mends n ticket old between
   pub second : MayDoOwn mends n false between new refused

@@ -99,6 +99,10 @@ impl<'a, R: Clock> Stable for Slow<'a, R> {
 
     ghost answers = { λ s. ⟦<MemStable as Stable>⟧.answers s.store };
 
+    ghost ahead = { λ s. ⟦<MemStable as Stable>⟧.ahead s.store };
+
+    ghost base = { λ s. ⟦<MemStable as Stable>⟧.base s.store };
+
     fn next(&self) -> u32 {
         self.store.next()
     }

@@ -68,6 +68,10 @@ impl Stable for Strange {
 
     ghost answers = { λ s result. Unit {0} };
 
+    ghost ahead = { λ s. ⟦<MemStable as Stable>⟧.ahead s.store };
+
+    ghost base = { λ s. ⟦<MemStable as Stable>⟧.base s.store };
+
     fn next(&self) -> u32 {
         self.store.next()
     }

@@ -1,5 +1,5 @@
 use Rattle.std.proofs.Common.{refl, sym, ◌∙◌}
-use Rattle.urb_daemon.proofs.ResumedRuns.{resumes_found}
+use Rattle.urb_daemon.proofs.WrappedJournals.{resumes_ahead}
 use Rattle.urb_daemon.proofs.program.run_folder.Goals as goal
 
 pub returns : goal.returns
@@ -8,18 +8,16 @@ returns g c =
     let count = sym c.args.journals.ok.0 ∙ c.requires.count in
     record {
       journals = c.args.journals.items;
-      lasts = run.result.0.items;
+      closed = run.result.0.items;
       told = run.new.console.is_told;
       end = run.result.1;
       before = _;
       count = count;
       nodes = c.requires.nodes;
       found = c.requires.found;
-      order = run.ensures.order;
-      ends = run.ensures.ends;
-      goes_on = run.ensures.goes_on;
+      ran = run.ensures.ran;
       resumes =
-          resumes_found _ _ _ c.args.journals.items _ _ _ run.ensures.goes_on c.requires.found count
+          resumes_ahead _ _ _ c.args.journals.items _ _ _ run.ensures.ran c.requires.found count
           (λ j honest. honest.clean) (λ j. refl);
       shows = c.report_end.ensures;
     }

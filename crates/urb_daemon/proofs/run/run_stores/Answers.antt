@@ -64,7 +64,8 @@ returns-in-Err-open_network-clause-ends g c =
     call.result.1 c.in-Ok.group call.result.0.items same c.in-Ok.is call.ensures.opens in
     ends-opened g.S.Stable (limits_of c.args.serving) c.args.stores.items c.in-Ok.group
     call.result.0.items call.result.0.items from c.args.console.now.is_told (Err (Network fault))
-    (unserved g.S.Stable c.in-Ok.group call.result.0.items) (λ known. tt) (ends-without-network fault c.args.console.now.is_told)
+    (unserved g.S.Stable c.in-Ok.group call.result.0.items) (λ known none. tt)
+    (ends-without-network fault c.args.console.now.is_told)
 
 pub returns-in-Err-clause-ends : goal.returns-in-Err-clause-ends
 returns-in-Err-clause-ends g c =
@@ -111,7 +112,7 @@ returns-in-Err-open_network-clause-goes_on g c =
     c.args.console.now.is_told (Err (Network fault)) same c.in-Ok.is c.recall.ensures.sound
     call.ensures.goes_on
     (unserved g.S.Stable c.in-Ok.group call.result.0.items)
-    (λ known. tt) (ends-without-network fault c.args.console.now.is_told)
+    (λ known none. tt) (ends-without-network fault c.args.console.now.is_told)
 
 pub returns-in-Err-clause-goes_on : goal.returns-in-Err-clause-goes_on
 returns-in-Err-clause-goes_on g c =

@@ -34,6 +34,7 @@ returns-in-Err g c =
       trust = c.in-Err.ensures.trust;
       refuses = c.in-Err.ensures.refuses;
       lasts = c.in-Err.ensures.lasts;
+      ahead = c.in-Err.ensures.ahead;
     } in
     inl (
       c.in-Err.fault,
@@ -61,6 +62,7 @@ loop-store-preserved g c =
       trust = c.in-Ok.ensures.trust;
       refuses = c.in-Ok.ensures.refuses;
       lasts = c.in-Ok.ensures.lasts;
+      ahead = c.in-Ok.ensures.ahead;
     } in
     let more = c.push_reserved.ensures.items in
     let lists =

@@ -17,6 +17,7 @@ returns-in-Ok-clause-reads g c =
             trust = c.in-Ok.ensures.trust;
             refuses = c.in-Ok.ensures.refuses;
             lasts = c.in-Ok.ensures.lasts;
+            ahead = c.in-Ok.ensures.ahead;
           };
       returns = c.restart_with.ensures.event;
     }
@@ -37,6 +38,7 @@ returns-in-Err-clause-reads g c =
             trust = c.in-Err.ensures.trust;
             refuses = c.in-Err.ensures.refuses;
             lasts = c.in-Err.ensures.lasts;
+            ahead = c.in-Err.ensures.ahead;
           };
       returns = (rw c.refusal.ensures refl, refl);
     }

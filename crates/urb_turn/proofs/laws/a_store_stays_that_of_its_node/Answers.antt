@@ -1,10 +1,10 @@
-use Rattle.urb_turn.proofs.Common.{IsLasting, IsStoreOf, subst, suc, sym}
+use Rattle.urb_turn.proofs.Common.{IsLasting, IsStoreOf, inl, subst, suc, sym}
 use Rattle.urb_turn.proofs.OtherNodes.{rested-leaves, rested-store}
 use Rattle.urb_world.proofs.recovery.EventPlans.{after-none}
 use Rattle.urb_turn.proofs.laws.a_store_stays_that_of_its_node.Goals as goal
 
 pub returns-clause-opened : goal.returns-clause-opened
-returns-clause-opened g c cluster i store secured got =
+returns-clause-opened g c cluster i store secured got none =
     let same = sym (after-none secured.stocked.world) in
     record {
       contents =
@@ -13,6 +13,7 @@ returns-clause-opened g c cluster i store secured got =
       lasting =
           subst (λ v. IsLasting g.S.Stable (v.node (suc i)) store) same
           (secured.lasting i store got);
+      tail = λ clean. inl none;
     }
 
 pub returns-clause-rests : goal.returns-clause-rests

@@ -5,7 +5,7 @@ use Rattle.urb_turn.proofs.Common.{arith, drafts_in_none, empty_memory, ended, f
 use Rattle.urb_turn.proofs.Common.{four, holding, house_of, house_of_four, house_of_none, inl, inr}
 use Rattle.urb_turn.proofs.Common.{length, limits, log, memory, name, new-kept, new_four, no_view}
 use Rattle.urb_turn.proofs.Common.{nothing_released, opened_node, pending, refl, shows_none, suc}
-use Rattle.urb_turn.proofs.Common.{true, view_of, zero, ℕ, ◌-◌, ◌∷◌, ◌≡◌}
+use Rattle.urb_turn.proofs.Common.{true, view_of, zero, ℕ, ◌∷◌, ◌≡◌}
 use Rattle.urb_world.specs.World.{stored}
 use Rattle.urb_group.specs.declared.reply.Reply.TheVariants as reply
 use Rattle.urb_group.specs.declared.taken.Taken.TheVariants as taken
@@ -78,6 +78,7 @@ kept = record {
     alive = λ honest clean. tt;
     shut = λ honest clean. inl tt;
   };
+  ahead = refl;
 }
   where
     false-true : false ≡ true → ⊥

@@ -94,6 +94,7 @@ kept = record {
     alive = λ honest clean. tt;
     shut = λ honest clean. inl tt;
   };
+  ahead = refl;
 }
   where
     false-true : false ≡ true → ⊥
@@ -227,6 +228,7 @@ matches = record {
     };
     known = λ clean. inl tt;
   };
+  tail = λ clean. inl refl;
 }
 
 pub returns-clause-a_pair_that_a_stop_leaves_of_another : goal.returns-clause-a_pair_that_a_stop_leaves_of_another

@@ -1,7 +1,7 @@
 -- The results of a restart and of a status in a new group.
 use Rattle.urb_turn.proofs.Common.{Answers, CameOf, Ends, Goes, IsLedTo, IsSound, Limits, None}
 use Rattle.urb_turn.proofs.Common.{NothingNew, Option, Shows, ShowsNode, Some, Status, [], ap, four}
-use Rattle.urb_turn.proofs.Common.{house_of_four, if◌then◌else◌, is_node, limits, log, new-kept}
+use Rattle.urb_turn.proofs.Common.{house_of_four, if◌then◌else◌, is_node, limits, new-kept}
 use Rattle.urb_turn.proofs.Common.{new_four, new_status, no_view, opened_node, refl, run, state_of}
 use Rattle.urb_turn.proofs.Common.{status_of, subst, suc, sym, view_of, zero, ℕ, ◌≡◌}
 use Rattle.urb_group.specs.declared.state.State.{State as Reported}

@@ -1,5 +1,5 @@
 -- No job lets a store forget how often it has failed.
-use Rattle.std.proofs.Common.{Bool, List, [], arith, false, subst, sym, true, ℕ, ◌≡◌, ◌≤◌}
+use Rattle.std.proofs.Common.{Bool, List, [], arith, false, inl, inr, subst, sym, true, ℕ, ◌≡◌, ◌≤◌}
 use Rattle.std.proofs.Math.Logic.{∥∥₁_elim}
 use Rattle.std.proofs.Props.{props}
 use Rattle.urb_group.specs.GroupViews.{GroupView}
@@ -7,8 +7,9 @@ use Rattle.urb_show.specs.internal.ReaderExamples.{shows_none}
 use Rattle.urb_stable.specs.MemoryStores.{Memory, empty_memory}
 use Rattle.urb_worker.specs.Acts.{Act}
 use Rattle.urb_turn.specs.Jobs.{runs_at}
+use Rattle.urb_turn.specs.KeptTails.{Prepares}
 use Rattle.urb_worker.specs.ServedStores.{IsLeftOf, Serves}
-use Rattle.urb_worker.specs.ServedStores.Serves.{Continues, Rests}
+use Rattle.urb_worker.specs.ServedStores.Serves.{Continues, Prepared, Rests}
 use Rattle.urb_turn.specs.Turns.{Stores}
 use Rattle.urb_turn.specs.Views.{FinishedView}
 use Rattle.urb_turn.specs.WholeTurns.{Does}
@@ -43,6 +44,12 @@ job-grows opened n true job before after done h =
     part-grows before after h.turn.at h.turn.new h.turn.stores
 job-grows opened n false job before after done h = same before after h.0
 
+-- so does what a worker has its store do between two jobs
+prepare-grows : (opened : GroupView) (n : ℕ) (before after : Memory)
+    → Prepares memory opened n before after → before.failures ≤ after.failures
+prepare-grows opened n before after (inl is) = same before after is
+prepare-grows opened n before after (inr asks) = asks.keeps.counts.grows
+
 -- and so do any number of jobs
 grows : (opened : GroupView) (n : ℕ) (first last : Memory) (start acts : List Act)
     → Serves memory opened n first last start acts → first.failures ≤ last.failures
@@ -50,6 +57,10 @@ grows opened n first last start acts (Rests _ _) = omega arith
 grows opened n first last start acts (Continues _ before _ _ old _ job serves works) =
     let here = grows opened n first before start old serves in
     let next = job-grows opened n (runs_at n job) job before last works.done works.does in
+    omega (arith, here, next)
+grows opened n first last start acts (Prepared _ before _ _ _ serves prepares) =
+    let here = grows opened n first before start acts serves in
+    let next = prepare-grows opened n before last prepares in
     omega (arith, here, next)
 
 -- a failure is not forgotten

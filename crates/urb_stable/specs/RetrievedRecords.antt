@@ -1,6 +1,7 @@
--- What a store was asked, what it answered, and what it holds after that.
-use Rattle.std.specs.Prelude.{List, None, Result, [], false, ◌≡◌}
+-- What a store that was asked for its records answered, and what it holds after that.
+use Rattle.std.specs.Prelude.{List, Result}
 use Rattle.urb_stable.specs.Entries.{Entry}
+use Rattle.urb_stable.specs.RecordsAhead.{KeepsAhead}
 use Rattle.urb_stable.specs.StableStorage.{CountsFailures, IsAllowedFault, IsContents, IsRetrieved}
 use Rattle.urb_stable.specs.StableStorage.{KeepsTrust, SettlesDoubt, StaysShut}
 use Rattle.urb_stable.specs.StoredTogether.{LeavesNoMore}
@@ -8,16 +9,9 @@ use Rattle.urb_stable.specs.declared.stable.Stable.{Ghosts}
 use Rattle.urb_stable.specs.declared.stable.StoreFault.{StoreFault}
 
 module _ {S A : Type 0} (g : Ghosts S A) where
-  -- No record is in doubt. If the store is honest, it has no record, and a stop leaves no record of
-  -- it.
-  pub record IsBlank (store : S) : Type 0 where
-    pub certain : g.is_honest store → g.certain store ≡ []
-    pub doubtful : g.is_doubtful store ≡ false
-    pub doubt : g.doubt store ≡ None
-    pub rest : g.is_honest store → g.leaves_only store (IsContents [] None)
-
   -- The store was asked for its records, and gave this answer, as a store promises. A stop during
-  -- the call leaves what the store may have held, and a stop after it what the store may hold.
+  -- the call leaves what the store may have held, and a stop after it what the store may hold. The
+  -- records ahead stay.
   pub record Gives (before : S) (answer : Result (List Entry) StoreFault) (after : S) : Type 0 where
     pub answers : g.answers before answer
     pub retrieved : g.is_honest after
@@ -35,3 +29,4 @@ module _ {S A : Type 0} (g : Ghosts S A) where
         (g.is_honest after) (g.is_shut after) answer
     pub refuses : StaysShut (g.is_shut before) (g.is_clean after) (g.is_shut after) answer
     pub lasts : g.is_clean after → LeavesNoMore (g.leaves_only before) (g.leaves_only after)
+    pub ahead : KeepsAhead (g.ahead before) (g.base before) (g.ahead after) (g.base after)

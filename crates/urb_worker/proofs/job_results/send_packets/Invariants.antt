@@ -1,6 +1,6 @@
 use Rattle.std.proofs.Common.{take}
 use Rattle.urb_worker.specs.Acts.{Sends}
-use Rattle.urb_worker.proofs.worker_loop.send_packets.Given as goal
+use Rattle.urb_worker.proofs.job_results.send_packets.Given as goal
 
 -- the packets so far
 abbrev pub invariant-loop-index : goal.invariant-loop-index

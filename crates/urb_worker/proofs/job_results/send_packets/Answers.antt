@@ -1,7 +1,7 @@
 use Rattle.std.proofs.Common.{sym}
 use Rattle.urb_worker.proofs.SentPackets.{sends_next, sends_past}
-use Rattle.urb_worker.proofs.worker_loop.send_packets.Goals as goal
-use Rattle.urb_worker.proofs.worker_loop.send_packets.Goals.{in-Some, in-None}
+use Rattle.urb_worker.proofs.job_results.send_packets.Goals as goal
+use Rattle.urb_worker.proofs.job_results.send_packets.Goals.{in-Some, in-None}
 
 pub loop-index-preserved : goal.loop-index-preserved
 loop-index-preserved g c =

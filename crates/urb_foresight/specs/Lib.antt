@@ -1,0 +1,2 @@
+pub mod ForeseenDrafts
+pub mod internal

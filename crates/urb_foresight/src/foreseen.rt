@@ -1,0 +1,12 @@
+//! What is foreseen of a call.
+
+/// What one call will do after those that were foreseen before it.
+#[derive(Clone, Copy, Debug, PartialEq, Eq)]
+pub enum Foreseen {
+    /// It drafts the record that was put behind the others.
+    Draft,
+    /// It drafts no record.
+    NoDraft,
+    /// Nothing is foreseen of it. The batch should end before it.
+    Unsure,
+}

@@ -1,0 +1,5 @@
+//! Tests of `urb_foresight`.
+#![tactic(auto)]
+
+#[cfg(test)]
+mod tests;

@@ -1,0 +1,117 @@
+//! The tickets that a worker takes at once, and the records that its store holds ahead of them.
+
+ghost use Rattle.std.specs.Prelude.{◌≡◌, IfErr, IfOk};
+ghost use Rattle.urb_group.specs.GroupViews.{Shows};
+ghost use Rattle.urb_world.specs.World.{World};
+ghost use Rattle.urb_turn.specs.KeptTails.{Prepares};
+ghost use Rattle.urb_turn.specs.NodeStores.{IsStoreSince};
+ghost use Rattle.urb_worker.specs.internal.ServedStores.{each};
+ghost use Rattle.urb_worker.specs.internal.TicketBatches.{AreCalls, IsBatchOf};
+
+use crate::WorkerSetting;
+use crossbeam_channel::Receiver;
+use std::alloc::Global;
+use std::sync::Wait;
+use std::thread;
+use std::time::Clock;
+use urb_foresight::{MAX_BATCH, WaitingCall};
+use urb_link::{Link, Ticket};
+use urb_names::NodeId;
+use urb_show::HouseName;
+use urb_stable::Stable;
+use urb_turn::{Gate, HubName, Reporter, Tally};
+
+/// What a worker hopes for when it takes a batch: as many tickets as the last one had. Its clients
+/// often send their next requests as soon as they are answered. So the worker polls for them for a
+/// while, if it polls at all. Without that, small and large batches would take turns.
+#[derive(Clone, Copy)]
+pub(crate) struct BatchHopes {
+    pub(crate) tickets: usize,
+    pub(crate) polls: u32,
+}
+
+/// Takes the tickets that wait behind this one: with it at most `MAX_BATCH`. If none waits and none
+/// is hoped for, or if memory for the list is refused, it returns this one alone.
+#[tactic(auto, using(crate::proofs::TicketBatches::begins_batch, crate::proofs::TicketBatches::goes_on))]
+pub(crate) fn take_waiting<K: HouseName, R: Wait>(
+    rt: &R,
+    alloc: Global,
+    jobs: &Receiver<Ticket<K>>,
+    first: Ticket<K>,
+    hopes: BatchHopes,
+) -> Result<Vec<Ticket<K>>, Ticket<K>>
+    ensures batch { IfOk result
+        (λ tickets. IsBatchOf first.job (each tickets.items (λ ticket. ticket.job))) }
+    ensures alone { IfErr result (λ ticket. ticket.job ≡ first.job) }
+{
+    if hopes.tickets < 2 && jobs.is_empty() {
+        return Err(first);
+    }
+    let Ok(mut tickets) = Vec::with_capacity(alloc, MAX_BATCH) else {
+        return Err(first);
+    };
+    tickets.push_reserved(first);
+    let mut polls = hopes.polls;
+    while tickets.len() < MAX_BATCH {
+        match jobs.try_recv(rt) {
+            Ok(ticket) => tickets.push_reserved(ticket),
+            Err(_) if 0 < polls && tickets.len() < hopes.tickets => {
+                polls -= 1;
+                thread::yield_now();
+            }
+            Err(_) => return Ok(tickets),
+        }
+    }
+    Ok(tickets)
+}
+
+// The calls by which these tickets may draft records at a node, up to the first ticket that crashes
+// or restarts a node. If memory is refused, the later calls are left out.
+fn calls_of<K: HouseName>(
+    alloc: Global,
+    node: NodeId,
+    tickets: &[Ticket<K>],
+) -> Vec<WaitingCall<'_>>
+    ensures { AreCalls node (each tickets.now (λ ticket. ticket.job)) result.items }
+{
+    let mut calls = Vec::new(alloc);
+    for ticket in tickets {
+        if ticket.job.turns_over() {
+            return calls;
+        }
+        if let Some(call) = ticket.job.call_at(node) {
+            if calls.push(call).is_err() {
+                return calls;
+            }
+        }
+    }
+    calls
+}
+
+/// Foresees what these tickets will draft, and has the node's store hold those records ahead.
+pub(crate) fn keep_ahead<
+    K: HouseName,
+    L: HubName,
+    S: Stable<Alloc = Global>,
+    N: Link,
+    G: Gate,
+    H: Reporter,
+    R: Wait + Clock,
+>(
+    setting: &WorkerSetting<'_, K, L, N, G, H, R>,
+    node: NodeId,
+    store: &mut S,
+    tickets: &[Ticket<K>],
+    tally: Tally<K, L>,
+) -> Tally<K, L>
+    ensures prepares { Prepares S.Stable K.origin node store.old store.new }
+    ensures keeps { (start : World) → Shows K.origin start
+        → IsStoreSince S.Stable start tally.last node store.old
+        → IsStoreSince S.Stable start result.last node store.new }
+{
+    let (rt, alloc) = (setting.rt, setting.alloc);
+    let calls = calls_of(alloc, node, tickets);
+    setting
+        .hub
+        .keep_ahead(rt, alloc, node, &calls, store, setting.gate, tally)
+}
