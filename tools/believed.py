@@ -188,6 +188,14 @@ def end_of_view(lines: Sequence[str], begin: int) -> int:
     return end
 
 
+def item_at(lines: Sequence[str], at: int) -> re.Match[str] | None:
+    """The item that begins in this line, if one does. The head of an impl may have more lines."""
+    text, end = lines[at], at + 1
+    while text.startswith("impl") and "{" not in text and end < len(lines):
+        text, end = f"{text} {lines[end].strip()}", end + 1
+    return ITEM.match(text)
+
+
 def owner_of(item: re.Match[str]) -> tuple[str, str]:
     """What an item at the left margin is, and the type or trait that it belongs to."""
     kind, rest = item.group(2), item.group(3)
@@ -223,8 +231,7 @@ def texts_in(path: Path, is_open: bool, names: set[str]) -> Iterator[PublicText]
     lines = path.read_text().splitlines()
     kind, owner, at = "", "", 0
     while at < len(lines):
-        item = ITEM.match(lines[at])
-        if item:
+        if item := item_at(lines, at):
             kind, owner = owner_of(item)
         is_public = is_open or owner in names
         head = head_at(lines, at) if FUNCTION.match(lines[at]) else None

@@ -6,11 +6,13 @@
 It proves several crates in parallel, each as soon as those below it are proved. The crates of the
 longest chain come first, and the others run at a lower priority. A crate is proved as `rt ci` does
 it: from nothing, over the statements of the crates below, without their proofs. No command of rt
-does this without tests and edits, so this tool calls the code of rt. It knows the kits whose code
-it fits, and refuses any other. It works on a copy of the tree, and prints a line for each crate.
+does this without tests and edits, so this tool calls the code of rt, if it knows the kit. It works
+on a copy of the tree, and prints a line for each crate. What it proved is kept in a store of its
+own (~/.cache/urbd-prove), so an interrupted run continues where it stopped. `rt ci` and `rt check`
+have another store: they never believe what this tool kept.
 
-What it proved is kept in a store of its own (~/.cache/urbd-prove), so an interrupted run continues
-where it stopped. `rt ci` and `rt check` have another store: they never believe what this tool kept.
+With any other kit it calls commands of rt: `rt all check` and `rt run`. That proves the same, takes
+longer, and keeps what it proved below crates/*/out.
 """
 from __future__ import annotations
 
@@ -53,16 +55,17 @@ def own_store() -> Path:
 
 
 def find_rt() -> str:
-    """The command rt of a known kit."""
+    """The command rt."""
     command = shutil.which("rt")
     if not command:
         raise Refused("there is no command rt. Install Rattle's toolchain first (README.md)")
-    run = subprocess.run([command, "version"], capture_output=True, text=True)
-    kit = " ".join(run.stdout.split())
-    if kit not in KNOWN_KITS:
-        known = " or ".join(KNOWN_KITS)
-        raise Refused(f"rt version says '{kit}', and this tool knows {known}. Use rt ci instead")
     return os.path.realpath(command)
+
+
+def is_known(command: str) -> bool:
+    """Whether the command rt is that of a kit whose code this tool was tried with."""
+    run = subprocess.run([command, "version"], capture_output=True, text=True)
+    return " ".join(run.stdout.split()) in KNOWN_KITS
 
 
 def load_rt(command: str, store: Path) -> Rt:
@@ -270,6 +273,16 @@ def prove_tree(top: Path, processors: int, store: Path) -> int:
     return 0
 
 
+def prove_by_commands(command: str, top: Path, processors: int) -> int:
+    """Proves and builds the program of this tree by commands of rt. Gives the status."""
+    folder = Path("crates", PROGRAM)
+    for words in (["all", "check", "--jobs", str(processors)], ["run", "--", "--version"]):
+        if subprocess.run([command, *words], cwd=top / folder).returncode:
+            return 1
+    print(f"built {folder / 'out' / PROGRAM}")
+    return 0
+
+
 def main(words: Sequence[str]) -> int:
     parser = argparse.ArgumentParser(
         prog="./prove", description=__doc__, formatter_class=argparse.RawDescriptionHelpFormatter
@@ -282,7 +295,10 @@ def main(words: Sequence[str]) -> int:
     if processors < 1:
         parser.error("--processors is at least 1")
     try:
-        return prove_tree(TOP, processors, own_store())
+        command = find_rt()
+        if is_known(command):
+            return prove_tree(TOP, processors, own_store())
+        return prove_by_commands(command, TOP, processors)
     except Refused as error:
         print(f"prove: {error}", file=sys.stderr)
         return 2

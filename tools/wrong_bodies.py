@@ -9,7 +9,7 @@ time. All others together take too long: each crate is proved once more, and eac
 of its own. So the gate tries one part of them: some edits of one crate, which take about ten
 minutes on two processors. The hash of crates/ chooses the part, so a run can be repeated.
 
-All are tried on a copy of the tree, which begins with what `rt check` kept. Below the table stand
+All are tried on a copy of the tree, which begins with the built libraries. Below the table stand
 the edits that were refused weakly: by a limit of the prover, or because a proof names what they
 took away.
 """
@@ -105,9 +105,11 @@ def sample(tree: Tree) -> None:
 def copy_of(tree: Tree, room: Path) -> Tree:
     """A copy of the tree in which each crate's wrong bodies are its only must-fail edits.
 
-    Nothing of out/ is copied: rt takes over what it kept for other copies of the same text.
+    Of out/ it has the built libraries alone. So rt proves no library again whose text is the same.
     """
     shutil.copytree(tree.crates, room / "crates", ignore=shutil.ignore_patterns("out"))
+    for built in tree.crates.glob("*/out/rlib"):
+        shutil.copytree(built, room / built.relative_to(tree.top))
     for name in ("crates.txt", "HANDLES"):
         if tree.has(name):
             shutil.copy2(tree.top / name, room / name)

@@ -135,6 +135,18 @@ class Page(DefinitionsTest):
 
 
 class Believed(DefinitionsTest):
+    def test_the_head_of_an_impl_may_have_more_lines(self) -> None:
+        cases: dict[tuple[str, ...], tuple[str, str]] = {
+            ("impl<A: X> Model for Desk<A> {",): ("impl of a trait", "Desk"),
+            ("impl<A: X> Model", "    for Desk<A>", "{"): ("impl of a trait", "Desk"),
+            ("impl<A: X>", "    Desk<A>", "{", "fn x() {"): ("impl", "Desk"),
+        }
+        for lines, owner in cases.items():
+            with self.subTest(lines):
+                item = believed.item_at(lines, 0)
+                assert item is not None
+                self.assertEqual(believed.owner_of(item), owner)
+
     def test_all_stand_where_they_belong(self) -> None:
         self.holds(believed.misfits(believed.Specs(self.tree(self.files()))))
 

@@ -120,13 +120,15 @@ class WrongBodies(TreeTest):
         self.assertTrue(tree.has("crates/urb_a/must-fail/gate.edit"))
 
     def test_a_copy_has_the_wrong_bodies_alone(self) -> None:
-        tree = self.tree(self.files(1))
+        kept = {"crates/urb_a/out/rlib/stamp": "1", "crates/urb_a/out/incremental/x": "2"}
+        tree = self.tree({**self.files(1), **kept})
         with tempfile.TemporaryDirectory() as room:
             copy = wrong_bodies.copy_of(tree, Path(room))
             names = [path.name for path in copy.files("crates/urb_a/must-fail/*")]
             self.assertEqual(names, ["e00.edit"])
             self.assertTrue(copy.has("crates.txt"))
-            self.assertFalse(copy.has("crates/urb_a/out"))
+            self.assertTrue(copy.has("crates/urb_a/out/rlib/stamp"))
+            self.assertFalse(copy.has("crates/urb_a/out/incremental"))
         self.assertTrue(tree.has("crates/urb_a/must-fail/gate.edit"))
         self.assertTrue(tree.has("crates/urb_a/wrong-bodies/e00.edit"))
 

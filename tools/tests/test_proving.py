@@ -1,4 +1,4 @@
-"""./prove: the kits that it knows, its own store, and the order of crates."""
+"""./prove: the kits that it knows and other kits, its own store, and the order of crates."""
 from __future__ import annotations
 
 import contextlib
@@ -161,16 +161,34 @@ class Proving(unittest.TestCase):
         self.assertNotIn("urbd proved", told)
         self.assertFalse((self.room / "tree/crates/urbd/out").exists())
 
-    def test_an_unknown_kit_is_refused_with_one_line(self) -> None:
-        self.install("rattle-kit-99z logic 0")
-        error = io.StringIO()
-        with contextlib.redirect_stderr(error), mock.patch.object(
-            proving, "own_store", lambda: self.store
+    def test_with_another_kit_commands_of_rt_prove_it(self) -> None:
+        folder = self.room / "tree" / "crates" / "urbd"
+        for fails, status, asked in (
+            ("", 0, ["all check --jobs 3", "run -- --version"]),
+            ("all", 1, ["all check --jobs 3"]),
+            ("run", 1, ["all check --jobs 3", "run -- --version"]),
         ):
-            self.assertEqual(proving.main([]), 2)
-        self.assertEqual(len(error.getvalue().splitlines()), 1)
-        self.assertIn("'rattle-kit-99z logic 0'", error.getvalue())
-        self.assertFalse(self.store.exists())
+            with self.subTest(fails=fails or "nothing"):
+                self.install_other(fails)
+                out, store = io.StringIO(), mock.patch.object(
+                    proving, "own_store", lambda: self.store
+                )
+                with mock.patch.object(proving, "TOP", self.room / "tree"), store:
+                    with contextlib.redirect_stdout(out):
+                        self.assertEqual(proving.main(["--processors", "3"]), status)
+                self.assertEqual((folder / "asked").read_text().splitlines(), asked)
+                self.assertEqual(
+                    out.getvalue().endswith("built crates/urbd/out/urbd\n"), not status
+                )
+                self.assertFalse(self.store.exists())
+                (folder / "asked").unlink()
+
+    def install_other(self, fails: str) -> None:
+        """Puts another kit into the path: its rt notes its words, and fails at this command."""
+        self.install("rattle-kit-99z logic 0")
+        lines = ("#!/bin/sh", 'test "$1" = version && exit 0', 'echo "$*" >> asked')
+        last = f'test "$1" != "{fails}"'
+        (self.room / "bin" / "rt").write_text("\n".join((*lines, last, "")))
 
     def test_a_kit_that_keeps_elsewhere_is_refused(self) -> None:
         rt = SimpleNamespace(Kept=lambda crates: SimpleNamespace(at="/gate"))
@@ -198,9 +216,9 @@ class Proving(unittest.TestCase):
 
 
 def has_known_kit() -> bool:
-    """Whether the real rt is installed, and its kit is one that ./prove knows."""
+    """Whether the real rt is installed, and its kit is one whose code ./prove calls."""
     try:
-        return bool(proving.find_rt())
+        return proving.is_known(proving.find_rt())
     except proving.Refused:
         return False
 

@@ -2,3 +2,4 @@ pub mod Desks
 pub mod IdleTimes
 pub mod Sends
 pub mod DeskExamples
+pub mod NextSubmits

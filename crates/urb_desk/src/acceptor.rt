@@ -2,6 +2,7 @@
 
 use crate::client_input::ClientInput;
 use crate::connections::Connections;
+use crate::shared_input::SharedInput;
 use crate::{ClientDesk, NodeDesk};
 use std::alloc::Global;
 use std::io;
@@ -85,10 +86,15 @@ fn run_session<K: HouseName, R: Wait + Clock>(
     let stream = &*visit.stream;
     let input = ClientInput::new(rt, stream, visit.stop, visit.connections)?;
     let answers = BufferedAnswers::new(alloc, stream)?;
-    let mut reader = answers.reader(alloc, input)?;
+    let shared = SharedInput::new(answers.reader(alloc, input)?);
     let may_crash = visit.connections.limits().may_crash;
-    let mut desk = ClientDesk::new(desk, &answers, may_crash);
-    let end = serve_session(alloc, &mut reader, &mut answers.writer(), &mut desk);
+    let mut desk = ClientDesk::new(desk, &shared, &answers, may_crash);
+    let end = serve_session(
+        alloc,
+        &mut shared.reader(),
+        &mut answers.writer(),
+        &mut desk,
+    );
     let _ = answers.send_all();
     Ok(end)
 }

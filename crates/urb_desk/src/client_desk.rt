@@ -6,8 +6,10 @@ ghost use Rattle.urb_client.specs.Responses.{said_by};
 ghost use Rattle.urb_desk.specs.ClientDesks.{is_taken, not_taken};
 
 use crate::NodeDesk;
+use crate::desk_queue::MOST_BEHIND;
+use crate::shared_input::SharedInput;
 use std::alloc::Global;
-use std::io::Write;
+use std::io::{Read, Write};
 use std::marker::Model;
 use std::sync::Wait;
 use std::time::Clock;
@@ -18,14 +20,19 @@ use urb_show::HouseName;
 /// A node's desk for a session whose answers are sent together. Before it waits for an entry, it
 /// sends the answers that the session has made so far. If clients may not crash the node, it refuses
 /// CRASH and RESTART as requests that the node doesn't know.
+///
+/// Submits that the client has sent one behind the other go to the node's worker together, so one
+/// sync may keep them all.
 #[derive(Drop)]
-pub struct ClientDesk<'a, 'w, K: HouseName, R: Wait + Clock, W: Write + Drop> {
+pub struct ClientDesk<'a, 'w, K: HouseName, R: Wait + Clock, I: Read + Drop, W: Write + Drop> {
     desk: NodeDesk<'a, K, R>,
+    input: &'w SharedInput<I>,
     answers: &'w BufferedAnswers<W>,
     may_crash: bool,
 }
 
-impl<'a, 'w, K: HouseName, R: Wait + Clock, W: Write + Drop> Model for ClientDesk<'a, 'w, K, R, W> {
+impl<'a, 'w, K: HouseName, R: Wait + Clock, I: Read + Drop, W: Write + Drop> Model
+    for ClientDesk<'a, 'w, K, R, I, W> {
     ghost use Rattle.urb_desk.specs.ClientDesks.{ClientDeskView};
 
     ghost Value = { ClientDeskView };
@@ -33,20 +40,38 @@ impl<'a, 'w, K: HouseName, R: Wait + Clock, W: Write + Drop> Model for ClientDes
     ghost view = { λ d. record { desk = d.desk; may_crash = d.may_crash } };
 }
 
-impl<'a, 'w, K: HouseName, R: Wait + Clock, W: Write + Drop> ClientDesk<'a, 'w, K, R, W> {
-    /// This desk, for a session with these answers, whose client may crash the node or may not.
+impl<'a, 'w, K: HouseName, R: Wait + Clock, I: Read + Drop, W: Write + Drop> ClientDesk<
+    'a,
+    'w,
+    K,
+    R,
+    I,
+    W,
+> {
+    /// This desk, for a session with this input and these answers, whose client may crash the node
+    /// or may not.
     pub fn new(
         desk: NodeDesk<'a, K, R>,
+        input: &'w SharedInput<I>,
         answers: &'w BufferedAnswers<W>,
         may_crash: bool,
-    ) -> ClientDesk<'a, 'w, K, R, W>
+    ) -> ClientDesk<'a, 'w, K, R, I, W>
         ensures { result ≡ record { desk = desk.entry; may_crash = may_crash } }
     {
         ClientDesk {
             desk,
+            input,
             answers,
             may_crash,
         }
+    }
+
+    // The submits that the client has sent behind this request, for the worker to do together with
+    // it.
+    fn submits_behind(&self, request: &Request) -> Vec<Request> {
+        let is_first = self.desk.is_level() && matches!(request, Request::Submit { .. });
+        let most = if is_first { MOST_BEHIND } else { 0 };
+        self.input.next_submits(self.desk.alloc(), most)
     }
 }
 
@@ -67,7 +92,8 @@ fn refuse_request() -> Response
     Response::refused(&Refusal::Frame(UNKNOWN_OPCODE))
 }
 
-impl<'a, 'w, K: HouseName, R: Wait + Clock, W: Write + Drop> Desk for ClientDesk<'a, 'w, K, R, W> {
+impl<'a, 'w, K: HouseName, R: Wait + Clock, I: Read + Drop, W: Write + Drop> Desk
+    for ClientDesk<'a, 'w, K, R, I, W> {
     type Alloc = Global;
 
     ghost use Rattle.urb_desk.specs.ClientDesks.{AnswersClient, RefusedClient};
@@ -84,6 +110,7 @@ impl<'a, 'w, K: HouseName, R: Wait + Clock, W: Write + Drop> Desk for ClientDesk
             // If they can't be sent, the session's next read fails.
             let _ = self.answers.send_all();
         }
-        self.desk.answer(request)
+        let behind = self.submits_behind(request);
+        self.desk.answer_before(request, &behind)
     }
 }

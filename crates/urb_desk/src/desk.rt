@@ -3,11 +3,12 @@
 ghost use Rattle.std.specs.Prelude.{◌≡◌, ◌⊎◌, ◌≤◌, ◌-◌, [], Err, IfOk, IsOk, IsTrue, MatchOption};
 ghost use Rattle.std.specs.Prelude.{MatchResult, OnErr, false, length};
 ghost use Rattle.urb_client.specs.declared.format.TheConstants.{MOST_ENTRIES};
-ghost use Rattle.urb_client.specs.Requests.{asked_by};
+ghost use Rattle.urb_client.specs.Requests.{IsAsked, asked_by};
 ghost use Rattle.urb_client.specs.Responses.{said_by};
 ghost use Rattle.urb_show.specs.Lists.{list_at};
 ghost use Rattle.urb_show.specs.Pages.{IsPageOf};
-ghost use Rattle.urb_desk.specs.Desks.{AnswersAt, LearnsTold, Looks, Reads, Sees, Works, gone};
+ghost use Rattle.urb_desk.specs.Desks.{AnswersAt, LearnsTold, Looks, Reads, RefusedAt, Sees};
+ghost use Rattle.urb_desk.specs.Desks.{Works, gone};
 ghost use Rattle.urb_desk.specs.Desks.{told_of};
 ghost use mathlib.Core.List.{IsPrefix};
 ghost use Rattle.urb_desk.specs.internal.Desks.{IsTurnFor, IsWork};
@@ -15,7 +16,7 @@ ghost use Rattle.urb_turn.specs.Loans.{Follows};
 ghost use Rattle.urb_turn.specs.Settlings.{told_in};
 
 use crate::NodeService;
-use crate::desk_queue::DeskQueue;
+use crate::desk_queue::{Came, DeskQueue};
 use crate::house_gone::{HouseGone, judge_read};
 use crate::lost::Lost;
 use crate::node_service::DeskService;
@@ -46,6 +47,9 @@ pub struct NodeDesk<'a, K: HouseName, R: Wait + Clock> {
     position: ReadPosition<K>,
     // The latest moment of the House that it has seen.
     seen: Option<Moment<K>>,
+    // What came of the submits that were sent to the worker before the session read them. The next
+    // one is the last of the list.
+    results: Vec<Came<K>>,
     // Why it has said that its worker or the House is gone.
     lost: Option<Lost>,
 }
@@ -102,6 +106,7 @@ impl<'a, K: HouseName, R: Wait + Clock> NodeDesk<'a, K, R> {
             },
             position,
             seen,
+            results: Vec::new(alloc),
             lost: None,
         }
     }
@@ -119,6 +124,7 @@ impl<'a, K: HouseName, R: Wait + Clock> NodeDesk<'a, K, R> {
             service: self.service.copy(),
             position: self.position.copy(),
             seen: copy_moment(&self.seen),
+            results: Vec::new(self.alloc),
             lost: self.lost,
         }
     }
@@ -219,15 +225,66 @@ impl<'a, K: HouseName, R: Wait + Clock> NodeDesk<'a, K, R> {
         }
     }
 
+    // What comes of a request: what came of it already, or what the worker returns. The submits
+    // behind it may be sent to the worker together with it.
+    fn ask(&mut self, request: &Request, behind: &[Request]) -> Result<Came<K>, NoMemory>
+        requires { IsWork (asked_by request.now) }
+        ensures { self.new ≡ self.old }
+    {
+        match self.results.pop() {
+            Some(came) => Ok(came),
+            None => {
+                let (rt, alloc) = (self.rt, self.alloc);
+                self.queue
+                    .ask(rt, alloc, request, behind, &mut self.results)
+            }
+        }
+    }
+
     // Has the worker do what a request asks, and learns what the worker published.
-    fn work(&mut self, request: &Request) -> Result<Response, NoMemory>
+    fn work(&mut self, request: &Request, behind: &[Request]) -> Result<Response, NoMemory>
         requires { IsWork (asked_by request.now) }
         ensures answered { IfOk result (λ response.
             AnswersAt K.origin self.old (asked_by request.now) (said_by response) self.new) }
         ensures refused { OnErr result (self.new ≡ self.old) }
     {
-        let came = self.queue.ask(self.rt, self.alloc, request);
+        let came = self.ask(request, behind);
         self.respond_or_refuse(request, came)
+    }
+
+    /// The desk's allocator.
+    pub(crate) fn alloc(&self) -> Global {
+        self.alloc
+    }
+
+    /// Whether the desk has sent its worker no submit that its session hasn't asked yet.
+    pub(crate) fn is_level(&self) -> bool {
+        self.results.is_empty()
+    }
+
+    /// Answers one request, as `answer` does. The submits are those that the client has sent behind
+    /// it. If the request is a submit, they may be sent to the worker together with it. Their
+    /// results wait here until the session asks them, in their order.
+    pub(crate) fn answer_before(
+        &mut self,
+        request: &Request,
+        behind: &[Request],
+    ) -> Result<Response, NoMemory>
+        requires { IsAsked (asked_by request.now) }
+        ensures answered { IfOk result (λ response.
+            AnswersAt K.origin self.old (asked_by request.now) (said_by response) self.new) }
+        ensures refused { OnErr result
+            (RefusedAt K.origin self.old (asked_by request.now) self.new) }
+    {
+        match request {
+            Request::Read { place, max } => self.read(*place, *max),
+            Request::Wait { place, max, millis } => self.wait(*place, *max, *millis),
+            Request::Submit { .. } => {
+                self.service.in_flight.await_calm(self.rt);
+                self.work(request, behind)
+            }
+            Request::Ask(_) => self.work(request, &[]),
+        }
     }
 
     // The session's position, which also knows the latest moment that the desk has seen.
@@ -337,14 +394,6 @@ impl<'a, K: HouseName, R: Wait + Clock> Desk for NodeDesk<'a, K, R> {
     ghost refuses = { RefusedAt K.origin };
 
     fn answer(&mut self, request: &Request) -> Result<Response, NoMemory> {
-        match request {
-            Request::Read { place, max } => self.read(*place, *max),
-            Request::Wait { place, max, millis } => self.wait(*place, *max, *millis),
-            Request::Submit { .. } => {
-                self.service.in_flight.await_calm(self.rt);
-                self.work(request)
-            }
-            Request::Ask(_) => self.work(request),
-        }
+        self.answer_before(request, &[])
     }
 }

@@ -52,6 +52,13 @@ impl<'r> DeskJob<'r> {
     }
 }
 
+/// What came of a ticket: its result, or the witness that the worker is gone.
+pub(crate) type Came<K> = Result<Finished<K>, WorkerGone>;
+
+/// The most submits that are sent behind a request, before it is answered. With the request they
+/// fill one batch of the worker.
+pub(crate) const MOST_BEHIND: usize = 15;
+
 /// The queue of a node's worker, as its desks have it. Nothing goes into it but what a request asks
 /// at this node.
 #[derive(Drop)]
@@ -96,40 +103,94 @@ impl<'a, K: HouseName> DeskQueue<'a, K> {
         }
     }
 
-    // Sends the worker what was asked, and returns the result, or the witness that the worker is
-    // gone. Before that it waits for a place for the ticket.
+    // Sends the worker what a request asks at the node. Returns the end of the channel at which the
+    // result comes, or the witness that the worker is gone.
     fn send<R: Wait>(
         &self,
         rt: &R,
         alloc: Global,
-        asked: DeskJob<'_>,
-    ) -> Result<Result<Finished<K>, WorkerGone>, NoMemory>
-        requires { asked.node ≡ self.now }
+        request: &Request,
+    ) -> Result<Result<Receiver<Finished<K>>, WorkerGone>, NoMemory>
+        requires { IsWork (asked_by request.now) }
     {
+        let asked = DeskJob::of(alloc, self.node, request)?;
         let (to, from) = crossbeam_channel::bounded(alloc, 1)?;
-        let ticket = asked.into_ticket(to);
-        let place = self.places.take(rt);
-        let came = match send_ticket(rt, self.sender, ticket) {
-            Ok(Ok(())) => Ok(await_answer(rt, &from)),
-            Ok(Err(gone)) => Ok(Err(gone)),
-            Err(refused) => Err(refused),
+        match send_ticket(rt, self.sender, asked.into_ticket(to))? {
+            Ok(()) => Ok(Ok(from)),
+            Err(gone) => Ok(Err(gone)),
+        }
+    }
+
+    // Sends the worker these submits, in their order, up to the first that can't be sent.
+    fn send_submits<R: Wait>(
+        &self,
+        rt: &R,
+        alloc: Global,
+        submits: &[Request],
+    ) -> Vec<Receiver<Finished<K>>> {
+        let mut sent = Vec::new(alloc);
+        for submit in submits {
+            if !matches!(submit, Request::Submit { .. }) || sent.reserve(1).is_err() {
+                return sent;
+            }
+            match self.send(rt, alloc, submit) {
+                Ok(Ok(from)) => sent.push_reserved(from),
+                Ok(Err(_)) | Err(_) => return sent,
+            }
+        }
+        sent
+    }
+
+    // Sends the worker what a request asks, and behind it these submits. Then it waits for all
+    // results. It returns the result of the request, and those of the submits in `later`, the last
+    // one first. Without memory for one of these, it leaves out that one and those behind it: their
+    // submits will be sent again, and the node answers them as repeats.
+    fn send_all<R: Wait>(
+        &self,
+        rt: &R,
+        alloc: Global,
+        request: &Request,
+        submits: &[Request],
+        later: &mut Vec<Came<K>>,
+    ) -> Result<Came<K>, NoMemory>
+        requires { IsWork (asked_by request.now) }
+    {
+        let from = match self.send(rt, alloc, request)? {
+            Ok(from) => from,
+            Err(gone) => return Ok(Err(gone)),
         };
-        place.give_back(rt);
-        came
+        let mut sent = self.send_submits(rt, alloc, submits);
+        let came = await_answer(rt, &from);
+        while let Some(from) = sent.pop() {
+            if later.push(await_answer(rt, &from)).is_err() {
+                later.clear();
+            }
+        }
+        Ok(came)
     }
 
     /// Sends the worker what a request asks at the node, and returns the result, or the witness that
     /// the worker is gone. It waits for a place for the ticket, and for the result.
+    ///
+    /// The submits are those that come behind the request. As many of them as find places are sent
+    /// before the request is answered, in their order. Their results are put into `later`, the last
+    /// one first.
     pub(crate) fn ask<R: Wait>(
         &self,
         rt: &R,
         alloc: Global,
         request: &Request,
-    ) -> Result<Result<Finished<K>, WorkerGone>, NoMemory>
+        submits: &[Request],
+        later: &mut Vec<Came<K>>,
+    ) -> Result<Came<K>, NoMemory>
         requires { IsWork (asked_by request.now) }
     {
-        let asked = DeskJob::of(alloc, self.node, request)?;
-        self.send(rt, alloc, asked)
+        let most = submits.len().min(MOST_BEHIND);
+        let places = self.places.take(rt, most as u32 + 1);
+        let behind = places.count() as usize - 1;
+        let came = self.send_all(rt, alloc, request, &submits[..behind], later);
+        places.give_back(rt);
+        came
     }
 }
 

@@ -29,9 +29,11 @@ mod desk_queue;
 mod frame_progress;
 mod house_gone;
 mod lost;
+mod next_submits;
 mod node_service;
 mod reader_pool;
 mod responses;
+mod shared_input;
 mod stray_turn;
 mod ticket_places;
 pub mod worked;
@@ -46,4 +48,5 @@ pub use connections::{
 pub use desk::NodeDesk;
 pub use node_service::NodeService;
 pub use reader_pool::ReaderPool;
-pub use ticket_places::{SESSION_TICKETS, TakenPlace, TicketPlaces};
+pub use shared_input::{SharedInput, SharedReader};
+pub use ticket_places::{SESSION_TICKETS, TakenPlaces, TicketPlaces};

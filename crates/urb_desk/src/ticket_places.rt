@@ -1,6 +1,6 @@
 //! Places in a worker's channel for the tickets of sessions.
 
-ghost use Rattle.std.specs.Prelude.{◌≡◌, ◌≤◌, ◌+◌, MatchOption, min};
+ghost use Rattle.std.specs.Prelude.{◌≡◌, ◌<◌, ◌≤◌, ◌+◌, ◌-◌, MatchOption, min};
 ghost use Rattle.urb_desk.specs.declared.ticket_places.TheConstants.{SESSION_TICKETS};
 
 use std::sync::{Condvar, Mutex, MutexGuard, Wait};
@@ -8,9 +8,9 @@ use std::sync::{Condvar, Mutex, MutexGuard, Wait};
 /// How many tickets of sessions a worker's channel and the worker have at a time.
 pub const SESSION_TICKETS: u32 = 32;
 
-// A place that was taken. It isn't `Drop`, so whoever has it must give it back.
-struct Place {
-    taken: (),
+// Places that were taken. They aren't `Drop`, so whoever has them must give them back.
+struct Places {
+    count: u32,
 }
 
 // How many places are free.
@@ -21,51 +21,65 @@ struct FreePlaces {
 }
 
 impl FreePlaces {
-    // Takes a place. `None` if none is free.
-    fn take(&mut self) -> Option<Place>
+    // Takes at most this many places, and one at least. `None` if none is free.
+    fn take(&mut self, most: u32) -> Option<Places>
+        requires { 0 < most }
         ensures { MatchOption result ((self.old.count ≡ 0) × (self.new.count ≡ 0))
-            (λ place. self.new.count + 1 ≡ self.old.count) }
+            (λ places. (0 < places.count) × (places.count ≡ min self.old.count most)
+            × (self.new.count + places.count ≡ self.old.count)) }
     {
         if self.count == 0 {
             return None;
         }
-        self.count -= 1;
-        Some(Place { taken: () })
+        let count = self.count.min(most);
+        self.count -= count;
+        Some(Places { count })
     }
 
-    // Gives a place back.
-    fn give_back(&mut self, place: Place)
-        ensures { self.new.count ≡ min (self.old.count + 1) SESSION_TICKETS }
+    // Gives places back.
+    fn give_back(&mut self, places: Places)
+        ensures { self.new.count ≡ min (self.old.count + places.count) SESSION_TICKETS }
     {
-        let Place { taken: () } = place;
-        if self.count < SESSION_TICKETS {
-            self.count += 1;
-        }
+        let Places { count } = places;
+        let room = SESSION_TICKETS - self.count;
+        self.count += count.min(room);
     }
 }
 
-/// The places for sessions' tickets. A session takes a place before it sends its worker a ticket,
-/// and gives it back when the worker has answered. The channel has room for twice as many tickets.
-/// So packets and ticks always find room, however many clients submit.
+/// The places for sessions' tickets. A session takes places before it sends its worker tickets, and
+/// gives them back when the worker has answered. The channel has room for twice as many tickets. So
+/// packets and ticks always find room, however many clients submit.
 #[derive(Drop)]
 pub struct TicketPlaces {
     free: Mutex<FreePlaces>,
     given_back: Condvar,
 }
 
-/// A place that was taken for a ticket. It isn't `Drop`: each path of the code that has it, also one
-/// on which memory is refused, must end with `give_back`, or else the code is refused.
-pub struct TakenPlace<'p> {
+/// Places that were taken for tickets. They aren't `Drop`: each path of the code that has them, also
+/// one on which memory is refused, must end with `give_back`, or else the code is refused.
+pub struct TakenPlaces<'p> {
     places: &'p TicketPlaces,
-    place: Place,
+    taken: Places,
 }
 
-impl<'p> TakenPlace<'p> {
-    /// Gives the place back, and wakes a session that waits for one.
+impl<'p> TakenPlaces<'p> {
+    /// The number of places that were taken.
+    pub fn count(&self) -> u32
+        ensures { result ≡ self.now.taken.count }
+    {
+        self.taken.count
+    }
+
+    /// Gives the places back, and wakes the sessions that wait for one.
     pub fn give_back<R: Wait>(self, rt: &R) {
-        let TakenPlace { places, place } = self;
-        places.free.lock(rt).give_back(place);
-        places.given_back.notify_one();
+        let TakenPlaces { places, taken } = self;
+        let is_one = taken.count == 1;
+        places.free.lock(rt).give_back(taken);
+        if is_one {
+            places.given_back.notify_one();
+        } else {
+            places.given_back.notify_all();
+        }
     }
 }
 
@@ -80,16 +94,20 @@ impl TicketPlaces {
         }
     }
 
-    /// Takes a place. Waits while none is free.
-    pub fn take<R: Wait>(&self, rt: &R) -> TakenPlace<'_> {
+    /// Takes as many places as are free, at most this many, and one at least. Waits while none is
+    /// free. A session that waits holds no place, so sessions never wait for each other in a circle.
+    pub fn take<R: Wait>(&self, rt: &R, most: u32) -> TakenPlaces<'_>
+        requires { 0 < most }
+        ensures { (0 < result.taken.count) × (result.taken.count ≤ most) }
+    {
         let mut free = self.free.lock(rt);
         for _ in rt.forever() {
-            match free.take() {
-                Some(place) => {
+            match free.take(most) {
+                Some(taken) => {
                     MutexGuard::unlock(free);
-                    return TakenPlace {
+                    return TakenPlaces {
                         places: self,
-                        place,
+                        taken,
                     };
                 }
                 None => free = self.given_back.wait(rt, free),

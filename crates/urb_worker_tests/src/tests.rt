@@ -26,6 +26,7 @@ mod gates;
 mod groups;
 mod hearing;
 mod limits;
+mod next_submits;
 mod own_jobs;
 mod pacing;
 mod places;

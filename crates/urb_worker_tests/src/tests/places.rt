@@ -22,12 +22,12 @@ fn waits_until_given_back<R: Threads + Wait + Clock + Sync>(rt: &R, places: &Tic
                 }
                 thread::sleep(rt, Duration::from_millis(1));
             }
-            let place = places.take(rt);
+            let place = places.take(rt, 1);
             taken.store(1, Ordering::SeqCst);
             place.give_back(rt);
         },
         move || {
-            let last = places.take(rt);
+            let last = places.take(rt, 1);
             full.store(1, Ordering::SeqCst);
             thread::sleep(rt, Duration::from_millis(50));
             let has_waited = taken.load(Ordering::SeqCst) == 0;
@@ -48,7 +48,7 @@ fn waits_for_a_place<R: Threads + Wait + Clock + Sync>(
     if others == 0 {
         return waits_until_given_back(rt, places);
     }
-    let place = places.take(rt);
+    let place = places.take(rt, 1);
     let has_waited = waits_for_a_place(rt, places, others - 1);
     place.give_back(rt);
     has_waited
