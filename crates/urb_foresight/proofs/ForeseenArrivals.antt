@@ -1,7 +1,7 @@
 -- An arrival drafts the packet's pair, if that may join. If only a certificate of it may join, and
 -- two nodes are a majority, it drafts the certificate. Otherwise it drafts nothing, or the counted
 -- nodes decide.
-use Rattle.std.proofs.Common.{Bool, Err, List, None, Ok, Option, Some, ap, arith, eq-eqb, cond}
+use Rattle.std.proofs.Common.{Bool, Err, List, None, Ok, Option, Some, ap, ap₂, arith, eq-eqb, cond}
 use Rattle.std.proofs.Common.{eqb-true, false, length, inl, inr, is_none, is_some, ltb-true, nat_lt}
 use Rattle.std.proofs.Common.{not, refl, subst, suc, sym, true, ℕ, ⊎_elim, ◌&&◌, ◌==◌, ◌||◌, ◌∙◌}
 use Rattle.std.proofs.Common.{◌∷◌, ◌≡◌, ◌≢◌, ◌≤◌, ◌<◌, ◌⊎◌}
@@ -11,7 +11,7 @@ use Rattle.urb_names.proofs.FoundPairs.{none_found}
 use Rattle.urb_names.proofs.SameNames.{majority_grows, same_name-same}
 use Rattle.urb_names.specs.Acknowledgements.{acked, with_ack}
 use Rattle.urb_names.specs.CarriedPackets.{Carried, says_certified}
-use Rattle.urb_names.specs.LabelsAndContents.{Content, Label}
+use Rattle.urb_names.specs.LabelsAndContents.{Content, Label, Limits}
 use Rattle.urb_names.specs.Names.{has_name, same_name}
 use Rattle.urb_names.specs.Nodes.{is_majority, is_node, majority_passes}
 use Rattle.urb_names.specs.Pairs.{message_of}
@@ -302,3 +302,27 @@ module _ (v : World) (p : ℕ) (packet : Carried) (kept : NodesKept v)
   arrival-drafts-none never also =
       drafts-none v (Arrive p (Ok packet)) kept ready its_pair (Cert packet.name)
       (packet-cases Stays v p packet (λ r. inl ready) (λ _ t. arrives-stays)) never also
+
+-- the node after the arrival of a packet that is taken
+arrival-after : (v : World) (p : ℕ) (packet : Carried) → (v.node p).state ≡ Ready
+    → is_taken v p packet ≡ true → is_node v.size.n p ≡ true
+    → (step v (Arrive p (Ok packet))).1.node p ≡ (arrives v.size p packet.source packet.name
+    packet.message packet.flags (v.node p)).1
+arrival-after v p packet ready taken is =
+    ap (λ (o : Reply × World). o.1.node p) (arrives-at v p packet ready taken is)
+    ∙ updated-at v.node p
+    (arrives v.size p packet.source packet.name packet.message packet.flags (v.node p)).1
+
+-- two worlds with the same limits and the same node do the same with a packet that both take
+pub arrival-same : (u v : World) (p : ℕ) (packet : Carried) → u.size ≡ v.size
+    → u.node p ≡ v.node p → (v.node p).state ≡ Ready → is_taken u p packet ≡ true
+    → is_taken v p packet ≡ true → is_node v.size.n p ≡ true
+    → DraftsNone p (Arrive p (Ok packet)) u → DraftsNone p (Arrive p (Ok packet)) v
+arrival-same u v p packet size same ready first second is none =
+    ap (λ (n : Node). n.state)
+    (arrival-after v p packet ready second is
+    ∙ (ap₂ (λ (l : Limits) (n : Node). (arrives l p packet.source packet.name packet.message
+    packet.flags n).1) (sym size) (sym same)
+    ∙ sym (arrival-after u p packet (ap (λ (n : Node). n.state) same ∙ ready) first
+    (subst (λ (l : Limits). is_node l.n p ≡ true) (sym size) is))))
+    ∙ none

@@ -1,8 +1,8 @@
 -- What is foreseen of a call in each world of a run, once the records before it are stored.
 use Rattle.std.proofs.Common.{Bool, Err, IfOk, List, None, Ok, Some, [], ap, ap₂, arith, cond}
-use Rattle.std.proofs.Common.{eqb-true, false, inr, is_some, length, ltb-true, refl, subst, suc}
-use Rattle.std.proofs.Common.{sym, true, ℕ, ◌++◌, ◌+◌, ◌<◌, ◌∙◌, ◌∷◌, ◌≡◌, ◌≢◌, ◌≤◌, Result}
-use Rattle.std.proofs.lemmas.Bool.{and_parts, false≢true}
+use Rattle.std.proofs.Common.{eqb-true, false, inl, inr, is_some, length, ltb-true, refl, subst, suc}
+use Rattle.std.proofs.Common.{sym, true, ℕ, ◌++◌, ◌+◌, ◌<◌, ◌==◌, ◌∙◌, ◌∷◌, ◌≡◌, ◌≢◌, ◌≤◌, Result}
+use Rattle.std.proofs.lemmas.Bool.{and_left, and_parts, false≢true}
 use Rattle.urb_names.proofs.FoundPairs.{has_pair-found, some_found}
 use Rattle.urb_names.specs.Acknowledgements.{acked}
 use Rattle.urb_names.specs.CarriedPackets.{Carried}
@@ -12,7 +12,8 @@ use Rattle.urb_names.specs.Nodes.{is_majority, is_node}
 use Rattle.urb_names.specs.Pairs.{message_of, own}
 use Rattle.urb_names.specs.declared.limits.TheConstants.{MAX_PAYLOAD}
 use Rattle.urb_names.specs.declared.refusal.PacketFault.{PacketFault}
-use Rattle.urb_node.specs.Part.{Ready}
+use Rattle.urb_node.proofs.SubmitCases.{next_name}
+use Rattle.urb_node.specs.Part.{Node, Ready}
 use Rattle.urb_node.specs.Steps.{is_down}
 use Rattle.urb_stable.specs.Entries.{Entry}
 use Rattle.urb_stable.specs.Fitting.{in_range}
@@ -21,24 +22,27 @@ use Rattle.urb_stable.specs.declared.record.Record.TheVariants.{Cert}
 use Rattle.urb_world.proofs.recovery.FullDelivery.{reached-sound}
 use Rattle.urb_world.proofs.steps.Runs.{reached-keeps}
 use Rattle.urb_world.specs.RunInvariant.{MayJoin, NodesKept}
-use Rattle.urb_world.specs.Step.{Arrive, IsReached, Submit}
-use Rattle.urb_world.specs.World.{World, stored}
+use Rattle.urb_world.specs.Step.{Arrive, IsReached, Submit, is_for}
+use Rattle.urb_world.specs.World.{World, stored, truthful}
 use Rattle.urb_group.specs.GroupCalls.{CountsOwn}
 use Rattle.urb_group.specs.GroupViews.{GroupView, Shows}
 use Rattle.urb_group.specs.TailQuestions.{TellsTail}
 use Rattle.urb_foresight.proofs.CountedRecords.{count-both, own_count}
-use Rattle.urb_foresight.proofs.FollowingRecords.{joins, joins-not}
+use Rattle.urb_foresight.proofs.FollowingRecords.{joins, joins-not, then-here, then-kept}
+use Rattle.urb_foresight.proofs.FollowingRecords.{world_then}
 use Rattle.urb_foresight.proofs.ForeseenArrivals.{arrival-drafts, arrival-drafts-none}
+use Rattle.urb_foresight.proofs.ForeseenArrivals.{arrival-same}
 use Rattle.urb_foresight.proofs.ForeseenArrivals.{certificate-drafts, no-packet, not-taken}
 use Rattle.urb_foresight.proofs.ForeseenSubmits.{alone-is, next_own, submit-drafts}
-use Rattle.urb_foresight.proofs.ForeseenSubmits.{submit-drafts-none, submit-not-new}
-use Rattle.urb_foresight.proofs.HeldPackets.{taken-later}
+use Rattle.urb_foresight.proofs.ForeseenSubmits.{submit-drafts-none, submit-not-new, submit-same}
+use Rattle.urb_foresight.proofs.HeldPackets.{for-later, not-truthful, taken-from, taken-later}
+use Rattle.urb_foresight.proofs.HeldPackets.{taken-then}
 use Rattle.urb_foresight.specs.ForeseenDrafts.{Drafts, DraftsNone, Foresees, IsOnceStored}
-use Rattle.urb_foresight.specs.ForeseenDrafts.{HangsOnCounts, IsReadyNode, OnceStored}
+use Rattle.urb_foresight.specs.ForeseenDrafts.{HangsOnCounts, IsReadyNode, OnceStored, SaysMore}
 use Rattle.urb_foresight.specs.declared.foreseen.Foreseen.{Foreseen}
 use Rattle.urb_foresight.specs.declared.foreseen.Foreseen.TheVariants as foreseen
 use Rattle.urb_foresight.specs.internal.ReachedWorlds.{ForeseesCertificate, InEach, InKept}
-use Rattle.urb_foresight.specs.internal.ReachedWorlds.{is_taken, pair_record}
+use Rattle.urb_foresight.specs.internal.ReachedWorlds.{is_borne_out, is_taken, pair_record}
 
 -- the rules hold in a world of a run
 nodes-kept : (v : World) → IsReached v → NodesKept v
@@ -69,6 +73,10 @@ module _ (group : GroupView) (p : ℕ) (old : List Entry) (there : InEach group 
   node-is : (w v : World) → Shows group w → IsOnceStored w p old v → is_node v.size.n p ≡ true
   node-is w v shows once =
       subst (λ (l : Limits). is_node l.n p ≡ true) (sym once.size) (there w shows).0
+
+  -- the node is ready in the first world too, with its part of the later one
+  then-ready : (w v : World) → IsOnceStored w p old v → ((world_then w p v).node p).state ≡ Ready
+  then-ready w v once = ap (λ (n : Node). n.state) (then-here p old w v once) ∙ once.ready
 
   -- ---- submits
 
@@ -131,7 +139,7 @@ module _ (group : GroupView) (p : ℕ) (old : List Entry) (there : InEach group 
           subst (λ (s : Entry). Drafts p (Submit p m) s v) (sym e)
           (submit-drafts v p m kept once.ready
           (subst (λ (s : Entry). MayJoin v.size (stored v) p (stored v p) s) e
-          (joins group p old w v shows kept once r tells)) (node-is w v shows once) short)
+          (joins p old w v once group shows r tells)) (node-is w v shows once) short)
 
       -- a submit drafts nothing if the node's next own record may not follow
       pub submit-unforeseen : TellsTail group p (old ++ r ∷ []) false
@@ -139,9 +147,15 @@ module _ (group : GroupView) (p : ℕ) (old : List Entry) (there : InEach group 
       submit-unforeseen tells w v shows before reached once =
           let e = own-record w v shows reached once in
           let kept = nodes-kept v reached in
-          submit-drafts-none v p m kept once.ready (λ join.
-          joins-not group p old w v shows kept once r (there w shows).0 tells
-          (subst (λ (s : Entry). MayJoin v.size (stored v) p (stored v p) s) (sym e) join))
+          let was = then-kept p old w v once (nodes-kept w before) kept in
+          let ready = then-ready w v once in
+          let here = then-here p old w v once in
+          let same = ap (λ (n : Node). pair_record (v.size.n == 1) (next_name p n) m) (sym here) in
+          submit-same (world_then w p v) v p m refl here (node-is w v shows once)
+          (submit-drafts-none (world_then w p v) p m was ready (λ join.
+          joins-not p old w v once group shows r (there w shows).0 tells
+          (subst (λ (s : Entry). MayJoin v.size (stored (world_then w p v)) p
+          (stored (world_then w p v) p) s) (sym (e ∙ same)) join)))
 
   -- ---- arrivals
 
@@ -159,22 +173,39 @@ module _ (group : GroupView) (p : ℕ) (old : List Entry) (there : InEach group 
   of-bytes packet bytes e told new h =
       subst (λ (r : Result Carried PacketFault). Foresees group p old (Arrive p r) told new) e h
 
-  module _ (packet : Carried) (apart : packet.source ≢ packet.target) where
-    -- a packet that isn't taken drafts nothing
-    pub untaken : InKept group (λ w. false ≡ is_taken w p packet)
+  module _ (packet : Carried) where
+    -- a packet that isn't for this node drafts nothing
+    pub not-meant : InEach group (λ w. false ≡ is_for w p packet)
         → OnceStored group p old (DraftsNone p (Arrive p (Ok packet)))
-    untaken never w v shows before reached once =
+    not-meant never w v shows before reached once =
         not-taken v p packet once.ready
-        (taken-later w v p old packet once apart
-        ∙ sym (never w shows (reached-keeps w before).0))
+        (and_left (is_for v p packet) (truthful v packet)
+        (for-later w v p packet once.size ∙ sym (never w shows)))
 
+    -- a packet for this node that its source doesn't bear out says more than is stored
+    pub says-more : InEach group (λ w. true ≡ is_for w p packet)
+        → InKept group (λ w. false ≡ is_borne_out w packet)
+        → SaysMore group p (Arrive p (Ok packet))
+    says-more meant never w shows reached = (
+      sym (meant w shows),
+      not-truthful w p packet (meant w shows) (never w shows (reached-keeps w reached).0),
+    )
+
+    -- one that its source bears out is taken
+    pub takes-it : InEach group (λ w. true ≡ is_for w p packet)
+        → InKept group (λ w. true ≡ is_borne_out w packet)
+        → InKept group (λ w. true ≡ is_taken w p packet)
+    takes-it meant borne w shows kept =
+        taken-from w p packet (meant w shows) (borne w shows kept)
+
+  module _ (packet : Carried) (apart : packet.source ≢ packet.target) where
     module _ (taken : InKept group (λ w. true ≡ is_taken w p packet)) (two : Bool)
         (two_is : two ≡ is_majority 2 group.size.n) where
       -- the packet is taken in the later world too
       still-taken : (w v : World) → Shows group w → IsReached w → IsOnceStored w p old v
           → is_taken v p packet ≡ true
       still-taken w v shows before once =
-          taken-later w v p old packet once apart ∙ sym (taken w shows (reached-keeps w before).0)
+          taken-later w v p old packet once apart (taken w shows (reached-keeps w before).0)
 
       -- two nodes are a majority in the later world exactly if they are one now
       enough : (w v : World) → Shows group w → IsOnceStored w p old v
@@ -197,12 +228,11 @@ module _ (group : GroupView) (p : ℕ) (old : List Entry) (there : InEach group 
           (pair_record two packet.name packet.message))
       pair-foreseen tells w v shows before reached once =
           let e = pair-is w v shows once in
-          let kept = nodes-kept v reached in
           subst (λ (s : Entry). Drafts p (Arrive p (Ok packet)) s v) (sym e)
-          (arrival-drafts v p packet kept once.ready (node-is w v shows once)
+          (arrival-drafts v p packet (nodes-kept v reached) once.ready (node-is w v shows once)
           (still-taken w v shows before once) apart
           (subst (λ (s : Entry). MayJoin v.size (stored v) p (stored v p) s) e
-          (joins group p old w v shows kept once the-pair tells)))
+          (joins p old w v once group shows the-pair tells)))
 
       -- an arrival drafts nothing if neither the pair nor a certificate may follow
       neither-foreseen : TellsTail group p
@@ -212,19 +242,25 @@ module _ (group : GroupView) (p : ℕ) (old : List Entry) (there : InEach group 
       neither-foreseen tells also w v shows before reached once =
           let e = pair-is w v shows once in
           let kept = nodes-kept v reached in
-          arrival-drafts-none v p packet kept once.ready (node-is w v shows once)
-          (still-taken w v shows before once) apart
-          (λ join. joins-not group p old w v shows kept once the-pair (there w shows).0 tells
-          (subst (λ (s : Entry). MayJoin v.size (stored v) p (stored v p) s) (sym e) join))
-          (joins-not group p old w v shows kept once (Cert packet.name) (there w shows).0 also)
+          let was = then-kept p old w v once (nodes-kept w before) kept in
+          let ready = then-ready w v once in
+          let first = taken w shows (reached-keeps w before).0 in
+          let both = taken-then w v p old packet once apart first in
+          arrival-same (world_then w p v) v p packet refl (then-here p old w v once) once.ready both
+          (still-taken w v shows before once) (node-is w v shows once)
+          (arrival-drafts-none (world_then w p v) p packet was ready (node-is w v shows once) both
+          apart
+          (λ join. joins-not p old w v once group shows the-pair (there w shows).0 tells
+          (subst (λ (s : Entry). MayJoin v.size (stored (world_then w p v)) p
+          (stored (world_then w p v) p) s) (sym e) join))
+          (joins-not p old w v once group shows (Cert packet.name) (there w shows).0 also))
 
       -- an arrival drafts a certificate if that may follow, and two nodes are a majority
       certificate-foreseen : two ≡ true → TellsTail group p (old ++ Cert packet.name ∷ []) true
           → OnceStored group p old (Drafts p (Arrive p (Ok packet)) (Cert packet.name))
       certificate-foreseen some tells w v shows before reached once =
-          let kept = nodes-kept v reached in
-          let join = joins group p old w v shows kept once (Cert packet.name) tells in
-          certificate-drafts v p packet kept once.ready (node-is w v shows once)
+          let join = joins p old w v once group shows (Cert packet.name) tells in
+          certificate-drafts v p packet (nodes-kept v reached) once.ready (node-is w v shows once)
           (still-taken w v shows before once) apart (sym (enough w v shows once) ∙ some)
           (counted v reached once.ready join) join
         where
@@ -260,7 +296,7 @@ module _ (group : GroupView) (p : ℕ) (old : List Entry) (there : InEach group 
       certificate-answers foreseen.Draft new never h =
           (Cert packet.name, h.2, certificate-foreseen h.0 h.1)
       certificate-answers foreseen.NoDraft new never h = (h.1, neither-foreseen never h.0)
-      certificate-answers foreseen.Unsure new never h = (h.2, inr (inr hangs))
+      certificate-answers foreseen.Unsure new never h = (h.2, inr (inr (inl hangs)))
         where
           hangs : HangsOnCounts group p old (Arrive p (Ok packet))
           hangs w shows = (

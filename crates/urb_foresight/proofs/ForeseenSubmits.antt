@@ -1,12 +1,12 @@
 -- A submit drafts the node's next own record, if that may join, or else nothing.
-use Rattle.std.proofs.Common.{Bool, List, None, Option, [], ap, arith, cond, count_by, eq-eqb}
+use Rattle.std.proofs.Common.{Bool, List, None, Option, [], ap, ap₂, arith, subst, cond, count_by, eq-eqb}
 use Rattle.std.proofs.Common.{eqb-true, false, find, inl, inr, le-ltb, length, lt-ltb, ltb-true}
 use Rattle.std.proofs.Common.{nat_lt, not, refl, suc, sym, true, ℕ, ◌*◌, ◌<◌, ◌==◌, ◌∙◌, ◌∷◌, ◌≡◌}
 use Rattle.std.proofs.Common.{◌≤◌}
 use Rattle.std.proofs.lemmas.Bool.{and_parts, cond-false, cond-true, or_parts}
 use Rattle.std.specs.List.{list_any}
 use Rattle.urb_names.proofs.TruthValues.{both_ways}
-use Rattle.urb_names.specs.LabelsAndContents.{Content}
+use Rattle.urb_names.specs.LabelsAndContents.{Content, Limits}
 use Rattle.urb_names.specs.Nodes.{is_majority, is_node}
 use Rattle.urb_names.specs.Pairs.{is_numbered, next_number, own}
 use Rattle.urb_names.specs.declared.limits.TheConstants.{MAX_PAYLOAD}
@@ -19,9 +19,10 @@ use Rattle.urb_stable.specs.Entries.{Entry}
 use Rattle.urb_stable.specs.Fitting.{in_range, is_next_own, keeps_a, keeps_b}
 use Rattle.urb_stable.specs.Records.{pend}
 use Rattle.urb_stable.specs.declared.record.Record.TheVariants.{Pend, PendCert}
+use Rattle.urb_world.proofs.steps.OneNodeStep.{updated-at}
 use Rattle.urb_world.proofs.steps.StepCases.{step-here, step-outcome}
 use Rattle.urb_world.specs.RunInvariant.{MayJoin, NodesKept}
-use Rattle.urb_world.specs.Step.{Submit, world_after}
+use Rattle.urb_world.specs.Step.{Submit, step, world_after}
 use Rattle.urb_world.specs.World.{World, stored}
 use Rattle.urb_foresight.proofs.DraftedEvents.{IsReadyOr, drafts-is, drafts-none}
 use Rattle.urb_foresight.specs.ForeseenDrafts.{Drafts, DraftsNone}
@@ -177,3 +178,21 @@ module _ (v : World) (p : ℕ) (m : Content) (kept : NodesKept v)
     where
       Stays : Reply × Node → Type 0
       Stays o = IsReadyOr next_own next_own (stored v p) o.1
+
+-- the node after a submit
+submit-after : (v : World) (p : ℕ) (m : Content) → is_node v.size.n p ≡ true
+    → (step v (Submit p m)).1.node p ≡ (submits v.size p m (v.node p)).1
+submit-after v p m is =
+    ap (λ (o : Reply × World). o.1.node p)
+    (step-outcome v (Submit p m) tt ∙ cond-true (is_node v.size.n p) _ _ is)
+    ∙ updated-at v.node p (submits v.size p m (v.node p)).1
+
+-- two worlds with the same limits and the same node do the same with a submit
+pub submit-same : (u v : World) (p : ℕ) (m : Content) → u.size ≡ v.size → u.node p ≡ v.node p
+    → is_node v.size.n p ≡ true → DraftsNone p (Submit p m) u → DraftsNone p (Submit p m) v
+submit-same u v p m size same is none =
+    ap (λ (n : Node). n.state)
+    (submit-after v p m is
+    ∙ (ap₂ (λ (l : Limits) (n : Node). (submits l p m n).1) (sym size) (sym same)
+    ∙ sym (submit-after u p m (subst (λ (l : Limits). is_node l.n p ≡ true) (sym size) is))))
+    ∙ none

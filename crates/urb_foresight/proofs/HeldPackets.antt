@@ -2,6 +2,7 @@
 use Rattle.std.proofs.Common.{Bool, List, None, Option, Some, [], ap, ap₂, arith, cond, count_by}
 use Rattle.std.proofs.Common.{lt-ltb, nat_lt, ◌<◌, eqb-true, false, is_some, not, refl, subst, suc}
 use Rattle.std.proofs.Common.{sym, true, ℕ, ◌&&◌, ◌++◌, ◌+◌, ◌-◌, ◌==◌, ◌∙◌, ◌∷◌, ◌≡◌, ◌≢◌, ◌≤◌}
+use Rattle.std.proofs.Math.Bool.{and_assoc}
 use Rattle.std.proofs.lemmas.Bool.{and_from, and_left, and_parts, and_right, false≢true, not-true}
 use Rattle.std.proofs.lemmas.List.Sums.{sum_by-append, sum_by-cons}
 use Rattle.std.specs.Bool.{MatchBool}
@@ -18,15 +19,18 @@ use Rattle.urb_stable.specs.Entries.{Entry}
 use Rattle.urb_stable.specs.Fitting.{in_range, known_held}
 use Rattle.urb_stable.specs.Records.{pend}
 use Rattle.urb_stable.specs.declared.record.Record.TheVariants.{Cert}
+use Rattle.urb_world.proofs.steps.ConfirmedPackets.{borne-certificate, borne-pair, to_borne}
+use Rattle.urb_world.proofs.steps.Growth.{certificate-begins, pair-begins}
 use Rattle.urb_world.specs.RunInvariant.{IsKept, MayJoin}
 use Rattle.urb_world.specs.Step.{is_for}
 use Rattle.urb_world.specs.World.{World, bears_out, stored, truthful, updated}
 use Rattle.urb_group.specs.GroupViews.{GroupView, Shows}
 use Rattle.urb_group.specs.TailQuestions.{TellsTail}
-use Rattle.urb_foresight.proofs.FollowingRecords.{certificate-held}
+use Rattle.urb_group.specs.declared.state.State.{State}
+use Rattle.urb_foresight.proofs.FollowingRecords.{certificate-held, then-elsewhere, world_then}
 use Rattle.urb_foresight.specs.ForeseenDrafts.{IsOnceStored}
 use Rattle.urb_foresight.specs.internal.ReachedWorlds.{has_certificate, holders, holds, is_as_told}
-use Rattle.urb_foresight.specs.internal.ReachedWorlds.{is_taken}
+use Rattle.urb_foresight.specs.internal.ReachedWorlds.{is_borne_out, is_taken}
 
 -- ---- one node
 
@@ -168,78 +172,110 @@ module _ (group : GroupView) (w : World) (shows : Shows group w) (kept : IsKept 
 
 -- ---- packets
 
+-- a group has a node exactly if it tells the node's state
+pub node-told : (b : Bool) (state : State) (o : Option State) → o ≡ cond b (Some state) None
+    → is_some o ≡ b
+node-told true state o e = ap is_some e
+node-told false state o e = ap is_some e
+
 module _ (w : World) (p : ℕ) (packet : Carried) where
-  -- a packet for another node isn't taken
-  pub taken-elsewhere : (packet.target == p) ≡ false → is_taken w p packet ≡ false
-  taken-elsewhere e =
-      and_left (is_for w p packet) (truthful w packet)
-      (and_right (is_node w.size.n packet.source && is_node w.size.n packet.name.sender)
+  -- a packet with another target isn't for this node
+  pub not-target : (packet.target == p) ≡ false → false ≡ is_for w p packet
+  not-target e =
+      sym (and_right (is_node w.size.n packet.source && is_node w.size.n packet.name.sender)
       (packet.target == p) e)
 
-  -- a packet is taken only if its source holds the pair, and has certified it if it says so
-  taken-parts : is_taken w p packet ≡ true
-      → (holds w packet.source packet.name packet.message && is_as_told w packet) ≡ true
-  taken-parts taken =
-      let both = and_parts (is_for w p packet) (truthful w packet) taken in
-      let ends =
-      and_parts (is_node w.size.n packet.source && is_node w.size.n packet.name.sender)
-      (packet.target == p) both.0 in
-      let truth =
-      and_parts (has_pair (pend (stored w packet.source)) packet.name packet.message)
-      (is_as_told w packet) both.1 in
-      and_from (holds w packet.source packet.name packet.message) (is_as_told w packet)
-      (and_from (is_node w.size.n packet.source) _
-      (and_parts (is_node w.size.n packet.source) (is_node w.size.n packet.name.sender)
-      ends.0).0 truth.0) truth.1
-
-  -- a packet for this node is taken if its source holds the pair and, if told, its certificate
-  taken-from : IsKept w → (packet.target == p) ≡ true → 0 < packet.name.sender
-      → (holds w packet.source packet.name packet.message && is_as_told w packet) ≡ true
-      → is_taken w p packet ≡ true
-  taken-from kept here low taken =
-      let both =
-      and_parts (holds w packet.source packet.name packet.message) (is_as_told w packet) taken in
-      let source =
-      and_parts (is_node w.size.n packet.source)
-      (has_pair (pend (stored w packet.source)) packet.name packet.message) both.0 in
-      let range =
-      and_parts (nat_lt packet.name.sender (suc w.size.n)) _
-      (kept-range w.size (stored w) packet.source (stored w packet.source)
-      (kept.nodes packet.source).kept packet.name packet.message source.1) in
-      and_from (is_for w p packet) (truthful w packet)
-      (and_from (is_node w.size.n packet.source && is_node w.size.n packet.name.sender)
+  -- a packet of a source that the group doesn't have isn't for a node of the group
+  pub not-source : false ≡ is_node w.size.n packet.source → false ≡ is_for w p packet
+  not-source e =
+      sym (and_left (is_node w.size.n packet.source && is_node w.size.n packet.name.sender)
       (packet.target == p)
-      (and_from (is_node w.size.n packet.source) (is_node w.size.n packet.name.sender) source.0
-      (and_from (nat_lt 0 packet.name.sender) _ (lt-ltb 0 packet.name.sender low) range.0)) here)
-      (and_from (has_pair (pend (stored w packet.source)) packet.name packet.message)
-      (is_as_told w packet) source.1 both.1)
+      (and_left (is_node w.size.n packet.source) (is_node w.size.n packet.name.sender) (sym e)))
 
-  -- a packet for this node is taken exactly if its source has stored what it says
-  pub taken-is : IsKept w → (packet.target == p) ≡ true → 0 < packet.name.sender
-      → (holds w packet.source packet.name packet.message && is_as_told w packet)
-      ≡ is_taken w p packet
-  taken-is kept here low =
-      both_ways (holds w packet.source packet.name packet.message && is_as_told w packet)
-      (is_taken w p packet) (taken-from kept here low) taken-parts
+  -- another packet is for its target exactly if the group has its name's sender
+  pub for-target : (b : Bool) → (packet.target == p) ≡ true → true ≡ is_node w.size.n packet.source
+      → b ≡ is_node w.size.n packet.name.sender → b ≡ is_for w p packet
+  for-target b here source e =
+      e
+      ∙ (sym (and-true (is_node w.size.n packet.name.sender))
+      ∙ ap₂ (λ (s t : Bool). (s && is_node w.size.n packet.name.sender) && t) source (sym here))
+    where
+      and-true : (c : Bool) → (c && true) ≡ c
+      and-true true = refl
+      and-true false = refl
 
--- two answers about a packet's source tell whether the packet is taken
-pub taken-if : (w : World) (p : ℕ) (packet : Carried) → IsKept w → (packet.target == p) ≡ true
-    → 0 < packet.name.sender → (a b : Bool)
+  -- the group has the source of a packet that is for its node
+  source-is : true ≡ is_for w p packet → is_node w.size.n packet.source ≡ true
+  source-is meant =
+      (and_parts (is_node w.size.n packet.source) (is_node w.size.n packet.name.sender)
+      (and_parts (is_node w.size.n packet.source && is_node w.size.n packet.name.sender)
+      (packet.target == p) (sym meant)).0).0
+
+  -- a packet that is for a node is taken if its source bears it out
+  pub taken-from : true ≡ is_for w p packet → true ≡ is_borne_out w packet
+      → true ≡ is_taken w p packet
+  taken-from meant borne =
+      sym (and_from (is_for w p packet) (truthful w packet) (sym meant)
+      (and_parts (is_node w.size.n packet.source) (truthful w packet) (sym borne)).1)
+
+  -- otherwise it says more than its source has stored
+  pub not-truthful : true ≡ is_for w p packet → false ≡ is_borne_out w packet
+      → truthful w packet ≡ false
+  not-truthful meant never =
+      at (is_node w.size.n packet.source) (truthful w packet) (source-is meant) never
+    where
+      at : (a b : Bool) → a ≡ true → false ≡ (a && b) → b ≡ false
+      at true b e f = sym f
+      at false b e f = absurd (false≢true e)
+
+-- two answers about a packet's source tell whether the source bears it out
+pub borne-out-if : (w : World) (packet : Carried) (a b : Bool)
     → a ≡ holds w packet.source packet.name packet.message → b ≡ is_as_told w packet
-    → (a && b) ≡ is_taken w p packet
-taken-if w p packet kept here low a b h k =
-    ap₂ (λ (s t : Bool). s && t) h k ∙ taken-is w p packet kept here low
+    → (a && b) ≡ is_borne_out w packet
+borne-out-if w packet a b h k =
+    ap₂ (λ (s t : Bool). s && t) h k
+    ∙ and_assoc (is_node w.size.n packet.source)
+    (has_pair (pend (stored w packet.source)) packet.name packet.message) (is_as_told w packet)
 
--- once node p has stored more, it takes the same packets
-pub taken-later : (w v : World) (p : ℕ) (records : List Entry) (packet : Carried)
-    → IsOnceStored w p records v → packet.source ≢ packet.target
-    → is_taken v p packet ≡ is_taken w p packet
-taken-later w v p records packet once apart = at (packet.target == p) refl
-  where
-    at : (b : Bool) → (packet.target == p) ≡ b → is_taken v p packet ≡ is_taken w p packet
-    at true e =
-        ap₂ (λ (l : Limits) (rs : List Entry). ((is_node l.n packet.source
-        && is_node l.n packet.name.sender) && (packet.target == p)) && bears_out rs packet)
-        once.size
-        (once.others packet.source (λ f. apart (f ∙ sym (eqb-true packet.target p e))))
-    at false e = taken-elsewhere v p packet e ∙ sym (taken-elsewhere w p packet e)
+-- the limits say whether a packet is for a node
+pub for-later : (w v : World) (p : ℕ) (packet : Carried) → v.size ≡ w.size
+    → is_for v p packet ≡ is_for w p packet
+for-later w v p packet size =
+    ap (λ (l : Limits). (is_node l.n packet.source && is_node l.n packet.name.sender)
+    && (packet.target == p)) size
+
+-- ---- packets later on
+
+module _ (w v : World) (p : ℕ) (records : List Entry) (packet : Carried)
+    (once : IsOnceStored w p records v) (apart : packet.source ≢ packet.target)
+    (taken : true ≡ is_taken w p packet) where
+  -- the packet is for node p, and its source has stored what it says
+  both : (is_for w p packet ≡ true) × (truthful w packet ≡ true)
+  both = and_parts (is_for w p packet) (truthful w packet) (sym taken)
+
+  -- its source is another node
+  other : packet.source ≢ p
+  other e =
+      apart (e ∙ sym (eqb-true packet.target p
+      (and_parts (is_node w.size.n packet.source && is_node w.size.n packet.name.sender)
+      (packet.target == p) both.0).1))
+
+  -- a packet that was taken is taken once nodes have stored more
+  pub taken-later : is_taken v p packet ≡ true
+  taken-later =
+      let begins = once.others packet.source other in
+      and_from (is_for v p packet) (truthful v packet)
+      (for-later w v p packet once.size ∙ both.0)
+      (to_borne (stored v packet.source) packet
+      (pair-begins (stored w packet.source) (stored v packet.source) begins packet.name
+      packet.message (borne-pair (stored w packet.source) packet both.1))
+      (λ e. certificate-begins (stored w packet.source) (stored v packet.source) begins packet.name
+      (borne-certificate (stored w packet.source) packet both.1 e)))
+
+  -- it is taken as well in the first world with node p's part of the second one
+  pub taken-then : is_taken (world_then w p v) p packet ≡ true
+  taken-then =
+      and_from (is_for (world_then w p v) p packet) (truthful (world_then w p v) packet)
+      (for-later w (world_then w p v) p packet once.size ∙ both.0)
+      (ap (λ (rs : List Entry). bears_out rs packet)
+      (then-elsewhere p records w v once packet.source other) ∙ both.1)

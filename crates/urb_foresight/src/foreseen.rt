@@ -7,6 +7,6 @@ pub enum Foreseen {
     Draft,
     /// It drafts no record.
     NoDraft,
-    /// Nothing is foreseen of it. The batch should end before it.
+    /// Nothing is foreseen of it: it may draft a record or none. The batch ends before it.
     Unsure,
 }

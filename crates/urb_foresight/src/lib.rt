@@ -4,19 +4,27 @@
 //! draft, the store can keep all of these by the next sync:
 //!
 //! ```text
-//! let mut foresight = Foresight::new(alloc);
 //! let call = WaitingCall::Submit { client, number, payload: &payload };
-//! match foresee(&group, alloc, node, &mut foresight, &call)? {   // for each call, in order
+//! let (foresight, refused) = foresee_calls(&group, alloc, node, &[call, ..]);
+//! let records = foresight.into_records();                // for `store_ahead` of `urb_stable`
+//! ```
+//!
+//! It foresees each call by `foresee`:
+//!
+//! ```text
+//! match foresee(&group, alloc, node, &mut foresight, &call)? {
 //!     Foreseen::Draft => ..,                             // a record was put behind the others
 //!     Foreseen::NoDraft => ..,                           // the call drafts nothing
 //!     Foreseen::Unsure => ..,                            // the batch ends before this call
 //! }
-//! let records = foresight.into_records();                // for `store_ahead` of `urb_stable`
 //! ```
 //!
-//! A prediction is exact if the calls run in this order, nothing else happens at the node, and no
-//! other node stores more meanwhile. If it fails, nothing false follows: the records may be stored
-//! anyway, and `Draft::claim` compares each draft with them.
+//! A prediction is exact if the calls run in this order, and nothing else happens at the node. Other
+//! nodes may store more meanwhile: no prediction rests on what a node has yet to store. So a packet
+//! whose source hasn't stored what the packet says is `Unsure`.
+//!
+//! If a prediction fails, nothing false follows. The store that holds the records ahead compares each
+//! record that it is to store with the first one ahead. But if they differ, the node goes down.
 //!
 //! Nothing here changes a group, stores a record, or waits. No payload is copied.
 #![tactic(auto)]
@@ -29,5 +37,5 @@ mod waiting_call;
 
 pub use foreseen::Foreseen;
 pub use foresight::{Foresight, MAX_BATCH};
-pub use predictions::foresee;
+pub use predictions::{foresee, foresee_calls};
 pub use waiting_call::WaitingCall;

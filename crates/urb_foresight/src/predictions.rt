@@ -1,15 +1,16 @@
 //! Foreseeing what a call drafts.
 
-ghost use Rattle.std.specs.Prelude.{◌≡◌, ◌<◌, IfOk, OnErr, length};
+ghost use Rattle.std.specs.Prelude.{◌≡◌, ◌<◌, [], IfOk, OnErr, length, map};
 ghost use Rattle.urb_names.specs.PacketGrammar.{packet_of};
 ghost use Rattle.urb_world.specs.Step.{Arrive, Submit};
-ghost use Rattle.urb_foresight.specs.ForeseenDrafts.{Foresees, IsReadyNode, MayBeStored, event_of};
+ghost use Rattle.urb_foresight.specs.ForeseenDrafts.{Foresees, ForeseesCalls, IsReadyNode};
+ghost use Rattle.urb_foresight.specs.ForeseenDrafts.{MayBeNext, MayBeStored, event_of};
 ghost use Rattle.urb_foresight.specs.internal.ReachedWorlds.{ForeseesCertificate, InEach};
 ghost use Rattle.urb_foresight.specs.internal.ReachedWorlds.{TellsReady, pair_record};
 ghost use Rattle.urb_foresight.specs.declared.foresight.TheConstants.{MAX_BATCH};
 
 use crate::foresight::count_own;
-use crate::taken_packets::find_taken;
+use crate::taken_packets::{find_taken, is_meant_for};
 use crate::{Foreseen, Foresight, WaitingCall};
 use std::alloc::Allocator;
 use urb_group::{ClientId, Group, Message, Name, NoMemory, NodeId, Payload, Record, State};
@@ -134,8 +135,11 @@ fn foresee_arrival<A: Allocator + Copy>(
     let Ok(packet) = parse(bytes) else {
         return Ok(Foreseen::NoDraft);
     };
-    let Some(message) = find_taken(group, node, &packet) else {
+    if !is_meant_for(group, node, &packet) {
         return Ok(Foreseen::NoDraft);
+    }
+    let Some(message) = find_taken(group, &packet) else {
+        return Ok(Foreseen::Unsure);
     };
     let are_two_enough = is_majority(2, group.config().n());
     let name = packet.name();
@@ -152,12 +156,16 @@ fn foresee_arrival<A: Allocator + Copy>(
 /// its record is put behind them. Call it for the calls that wait, in their order, and let the
 /// batch end before the first one that is `Unsure`.
 ///
-/// It is a prediction, which holds if nothing else happens at the node, and no other node stores
-/// more. Correctness never rests on it: `Draft::claim` compares each draft with what was stored.
+/// It is a prediction. It holds if only these calls happen at the node, whatever other nodes store
+/// meanwhile. Safety never rests on it. The store that holds the records ahead compares each record
+/// that it is to store with the first one ahead. If they differ, it stores nothing more, and the
+/// node goes down.
 ///
 /// `Unsure`: there are `MAX_BATCH` records, or the group has no such node, or the node isn't ready.
 /// Or the packet's name is pending, and two nodes of the group are no majority: then it depends on
-/// which nodes are counted. `NoMemory`: the records are as before; end the batch, or ask again.
+/// which nodes are counted. Or the packet's source hasn't stored what the packet says. It may do so
+/// before the packet's turn, and anybody can send such a packet. `NoMemory`: the records are as
+/// before; end the batch, or ask again.
 pub fn foresee<A: Allocator + Copy>(
     group: &Group<A>,
     alloc: A,
@@ -184,4 +192,32 @@ pub fn foresee<A: Allocator + Copy>(
         } => foresee_submit(group, alloc, node, foresight, *client, *number, payload),
         WaitingCall::Arrive { bytes } => foresee_arrival(group, alloc, node, foresight, bytes),
     }
+}
+
+/// Foresees what these calls will draft at a node, one after the other: all of them, or those before
+/// the first of which nothing is foreseen. If memory is refused, it stops there. Then the refusal is
+/// returned too, and what was foreseen so far holds.
+pub fn foresee_calls<A: Allocator + Copy>(
+    group: &Group<A>,
+    alloc: A,
+    node: NodeId,
+    calls: &[WaitingCall<'_, A>],
+) -> (Foresight<A>, Option<NoMemory>)
+    ensures foreseen { ForeseesCalls group.now node (map (event_of node) calls.now) [] result.0
+        result.1 }
+
+    // If there are any records, a store may keep all of them by one call.
+    ensures may { 0 < length result.0 → MayBeNext group.now node result.0 }
+{
+    let mut foresight = Foresight::new(alloc);
+    for call in calls {
+        let foreseen = match foresee(group, alloc, node, &mut foresight, call) {
+            Ok(foreseen) => foreseen,
+            Err(refused) => return (foresight, Some(refused)),
+        };
+        if foreseen == Foreseen::Unsure {
+            return (foresight, None);
+        }
+    }
+    (foresight, None)
 }

@@ -1,12 +1,13 @@
-//! Whether a packet that waits at a node is one that the node will take.
+//! Whether a packet that waits at a node is one that the node would take now.
 
 ghost use Rattle.std.specs.Prelude.{◌≡◌, ◌≤◌, true, is_some};
 ghost use Rattle.std.specs.Bool.{MatchBool};
 ghost use Rattle.std.specs.Option.{ForSome};
 ghost use Rattle.urb_names.specs.Nodes.{is_majority, is_node};
+ghost use Rattle.urb_world.specs.Step.{is_for};
 ghost use Rattle.urb_foresight.specs.internal.ReachedWorlds.{InEach, InKept, has_certificate};
 ghost use Rattle.urb_foresight.specs.internal.ReachedWorlds.{holders, holds, holds_once};
-ghost use Rattle.urb_foresight.specs.internal.ReachedWorlds.{is_as_told, is_taken};
+ghost use Rattle.urb_foresight.specs.internal.ReachedWorlds.{is_as_told, is_borne_out};
 
 use std::alloc::Allocator;
 use urb_group::{Group, Message, Name, NodeId, Record};
@@ -102,21 +103,39 @@ fn is_as_certified<A: Allocator + Copy>(
     }
 }
 
-/// Returns the message of a packet that a node of the group would take if it is ready. `None` if
-/// the packet isn't for this node, or its source hasn't stored what it says.
+// Says whether the group has this node.
+fn has_node<A: Allocator + Copy>(group: &Group<A>, node: NodeId) -> bool
+    ensures { InEach group.now (λ w. result ≡ is_node w.size.n node) }
+{
+    group.state(node).is_some()
+}
+
+/// Says whether a packet names only nodes of the group, and is for this one. No event changes that.
+pub(crate) fn is_meant_for<A: Allocator + Copy>(
+    group: &Group<A>,
+    node: NodeId,
+    packet: &PacketView<'_>,
+) -> bool
+    ensures { InEach group.now (λ w. result ≡ is_for w node packet.now) }
+{
+    if packet.target() != node {
+        return false;
+    }
+    if !has_node(group, packet.source()) {
+        return false;
+    }
+    has_node(group, packet.name().sender)
+}
+
+/// Returns the message of a packet whose source has stored what the packet says. `None` if the
+/// source hasn't, or isn't a node of the group.
 pub(crate) fn find_taken<'g, A: Allocator + Copy>(
     group: &'g Group<A>,
-    node: NodeId,
     packet: &PacketView<'_>,
 ) -> Option<&'g Message<A>>
     ensures same { ForSome result (λ m. m.now ≡ packet.now.message) }
-    ensures taken { InKept group.now (λ w. is_some result ≡ is_taken w node packet.now) }
+    ensures taken { InKept group.now (λ w. is_some result ≡ is_borne_out w packet.now) }
 {
-    // Only the proof needs this call: it states the ranges of a packet's name.
-    packet.recall();
-    if packet.target() != node {
-        return None;
-    }
     let message = group.message(packet.source(), packet.name())?;
     if !is_carried(message, packet) {
         return None;

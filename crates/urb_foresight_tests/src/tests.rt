@@ -15,12 +15,14 @@ enum Form {
     PendCert(u8, u32),
 }
 
-/// What comes to the node: a client's message, with the client, its number and its payload; or a
-/// packet, with its source, its name's sender and number, and whether it reports a certificate.
+/// What comes to the node. A client's message has the client, its number and its payload. A packet
+/// has its source, its name's sender and number, and whether it reports a certificate. A stray packet
+/// is for another node. It has that node, its source, and its name's sender and number.
 #[derive(Clone, Copy)]
 enum Coming {
     Submit(u16, u32, &'static [u8]),
     Arrive(u8, u8, u32, bool),
+    Stray(u8, u8, u8, u32),
     Bytes(&'static [u8]),
 }
 
@@ -32,16 +34,21 @@ fn message(alloc: Global, number: u32) -> Option<Message> {
     Message::copy_of(alloc, ClientId::new(7)?, number, b"a").ok()
 }
 
-fn record(alloc: Global, form: Form) -> Option<Record> {
-    let (Form::Pend(sender, seq) | Form::PendCert(sender, seq)) = form;
-    let message = message(alloc, seq)?;
+// The name with this sender and number.
+fn name_of(sender: u8, seq: u32) -> Option<Name> {
     if seq == 0 {
         return None;
     }
-    let name = Name {
+    Some(Name {
         sender: NodeId::new(sender)?,
         seq,
-    };
+    })
+}
+
+fn record(alloc: Global, form: Form) -> Option<Record> {
+    let (Form::Pend(sender, seq) | Form::PendCert(sender, seq)) = form;
+    let message = message(alloc, seq)?;
+    let name = name_of(sender, seq)?;
     if matches!(form, Form::Pend(_, _)) {
         return Some(Record::Pend(name, message));
     }
@@ -114,15 +121,14 @@ fn make_waiting(alloc: Global, node: NodeId, coming: Coming) -> Option<Waiting> 
             Some(Waiting::Submit(ClientId::new(client)?, number, payload))
         }
         Coming::Arrive(source, sender, seq, is_certified) => {
-            if seq == 0 {
-                return None;
-            }
-            let name = Name {
-                sender: NodeId::new(sender)?,
-                seq,
-            };
             let source = NodeId::new(source)?;
+            let name = name_of(sender, seq)?;
             Some(Waiting::Arrive(packet_bytes(alloc, node, source, name, is_certified)?))
+        }
+        Coming::Stray(target, source, sender, seq) => {
+            let (target, source) = (NodeId::new(target)?, NodeId::new(source)?);
+            let name = name_of(sender, seq)?;
+            Some(Waiting::Arrive(packet_bytes(alloc, target, source, name, false)?))
         }
         Coming::Bytes(bytes) => Some(Waiting::Arrive(Vec::from_slice(alloc, bytes).ok()?)),
     }

@@ -1,22 +1,20 @@
 -- A store that is asked to hold records ahead still matches its node, whatever it answers.
 use Rattle.urb_turn.proofs.Common.{Bool, Entry, Err, Event, Ghosts, GroupView, IsLastingOf}
-use Rattle.urb_turn.proofs.Common.{IsLedTo, IsSound, IsStoreAfter, IsStoreOf, IsTrue, List}
+use Rattle.urb_turn.proofs.Common.{IsLedTo, IsSound, IsStoreAfter, IsStoreOf, List}
 use Rattle.urb_turn.proofs.Common.{None, Ok, Option, Result, Shows, Some, StoreFault}
-use Rattle.urb_turn.proofs.Common.{World, [], after, ap, false, inl, inr, is_down, is_node, refl}
-use Rattle.urb_turn.proofs.Common.{state_of, subst, sym, true, ℕ, ◌++◌, ◌∙◌, ◌∷◌, ◌≡◌}
-use Rattle.std.proofs.Common.{cond}
+use Rattle.urb_turn.proofs.Common.{World, [], after, ap, false, inl, inr, is_down, refl}
+use Rattle.urb_turn.proofs.Common.{subst, sym, true, ℕ, ◌++◌, ◌∙◌, ◌∷◌, ◌≡◌}
+use Rattle.std.proofs.Common.{length, ltb-true, nat_lt, ◌<◌, ◌⊎◌}
+use Rattle.std.proofs.lemmas.Bool.{ltb-false}
+use Rattle.urb_names.specs.declared.refusal.NoMemory.{NoMemory}
+use Rattle.urb_turn.specs.declared.hub.TheConstants.{LEAST_AHEAD}
 use Rattle.std.proofs.lemmas.List.Elements.{All-from_recursion}
 use Rattle.std.specs.List.{All}
 use Rattle.std.specs.Prelude.{MatchBool}
 use Rattle.urb_group.proofs.shown.AgreeingWorlds.{sound-kept}
 use Rattle.urb_group.proofs.stops.SecuredClusters.{lasting-honest}
 use Rattle.urb_group.proofs.stops.StockedClusters.{leaves-held}
-use Rattle.urb_group.specs.GroupCalls.{Answers}
 use Rattle.urb_group.specs.StoreContents.{HoldsOf}
-use Rattle.urb_group.specs.TailQuestions.{TellsTail}
-use Rattle.urb_group.specs.declared.state.State.{State}
-use Rattle.urb_group.specs.declared.state.State.TheVariants as state
-use Rattle.urb_node.specs.Part as part
 use Rattle.urb_stable.specs.Entries.{IsEntry}
 use Rattle.urb_stable.specs.Records.{pend}
 use Rattle.urb_stable.specs.KeptTails.{KeepsTail, Rests}
@@ -24,7 +22,8 @@ use Rattle.urb_stable.specs.RecordsAhead.{HoldsAhead, MayHoldAhead}
 use Rattle.urb_stable.specs.StableStorage.{IsContents, is_place}
 use Rattle.urb_turn.proofs.LastingStores.{honest-up}
 use Rattle.urb_turn.proofs.OtherNodes.{rested-store}
-use Rattle.urb_turn.specs.KeptTails.{IsReadyIn, MayHold}
+use Rattle.urb_foresight.specs.ForeseenDrafts.{MayBeNext}
+use Rattle.urb_turn.specs.KeptTails.{AsksToHold, MayHold, Prepares}
 use Rattle.urb_turn.specs.NodeStores.{IsStoreSince, MayHaveTail, WouldHaveTail}
 use Rattle.urb_turn.specs.internal.LoanEnds.{IsNextLoan}
 use Rattle.urb_world.proofs.steps.ShortPayloads.{images-short, short-append}
@@ -34,46 +33,27 @@ use Rattle.urb_world.specs.World.{stored}
 
 -- ---- what the House says
 
--- the answer about the node's state
-pub is_ready : (group : GroupView) (n : ℕ) (answer : Option State)
-    → Answers (λ w. Some (state_of (w.node n).state)) group n answer
-    → answer ≡ Some state.Ready → IsReadyIn group n
-is_ready group n answer answers e w shows =
-    at (is_node w.size.n n) (w.node n).state refl refl
-  where
-    told : Some state.Ready ≡ cond (is_node w.size.n n) (Some (state_of (w.node n).state)) None
-    told = sym e ∙ answers w shows
-
-    at : (b : Bool) (s : part.State) → is_node w.size.n n ≡ b → (w.node n).state ≡ s
-        → (w.node n).state ≡ part.Ready
-    at true part.Ready f k = k
-    at true (part.Storing entry cause) f k =
-        let said : Some state.Ready ≡ Some (state_of (part.Storing entry cause)) =
-        told ∙ (ap (λ (b : Bool). cond b (Some (state_of (w.node n).state)) None) f
-        ∙ ap (λ (s : part.State). Some (state_of s)) k) in absurd (cc)
-    at true (part.Down o) f k =
-        let said : Some state.Ready ≡ Some (state_of (part.Down o)) =
-        told ∙ (ap (λ (b : Bool). cond b (Some (state_of (w.node n).state)) None) f
-        ∙ ap (λ (s : part.State). Some (state_of s)) k) in absurd (cc)
-    at false s f k =
-        let said : Some state.Ready ≡ None =
-        told ∙ ap (λ (b : Bool). cond b (Some (state_of (w.node n).state)) None) f in absurd (cc)
-
 -- records within their limits have payloads within the limit
 records-short : (records : List Entry) → All IsEntry records → AreShort (pend records)
 records-short records h =
     images-short (records ∷ []) (All-from_recursion (All IsEntry) (records ∷ []) (h, tt)) 1
 
--- the group says that these records may follow those of the node
-pub may_hold : (group : GroupView) (n : ℕ) (records : List Entry) (may : Bool)
-    → All IsEntry records → IsReadyIn group n → TellsTail group n records may → IsTrue may
-    → MayHold group n records
-may_hold group n records may entries ready tells is =
+-- records that a node may store next may be held ahead
+pub may_hold : (group shown : GroupView) (n : ℕ) (records told : List Entry) → shown ≡ group
+    → records ≡ told → All IsEntry records → (0 < length told → MayBeNext shown n told)
+    → 0 < length records → MayHold group n records
+may_hold group shown n records told same is entries next some =
     record {
-      ready = ready;
-      may = λ w shows. ((tells w shows).0 is).1;
+      ready = λ w shows. (all w shows).0;
+      may = λ w shows. (all w shows).1;
       short = records-short records entries;
     }
+  where
+    all : MayBeNext group n records
+    all =
+        subst (λ (it : GroupView). MayBeNext it n records) same
+        (subst (λ (rs : List Entry). MayBeNext shown n rs) (sym is)
+        (next (subst (λ (rs : List Entry). 0 < length rs) is some)))
 
 -- ---- the store
 
@@ -206,3 +186,16 @@ module _ {S A : Type 0} (g : Ghosts S A) (opened : GroupView) (n : ℕ) (group :
       (held-after records answer before after sound leads may keeps
       (subst (λ (events : List Event). IsStoreAfter g start events n before) next.0
       (looked_since first (Some end) before next h)))
+
+-- a store was asked to hold records ahead, or it stayed as it was
+pub prepares-either : {S A : Type 0} (g : Ghosts S A) (opened : GroupView) (n : ℕ)
+    (events : List Event) (refused : Option NoMemory) (before after : S)
+    → (h : Prepares g opened n events refused before after)
+    → (after ≡ before) ⊎ AsksToHold g h.group n h.holds.records before after
+prepares-either g opened n events refused before after h =
+    at (nat_lt (length h.holds.records) LEAST_AHEAD) refl
+  where
+    at : (b : Bool) → nat_lt (length h.holds.records) LEAST_AHEAD ≡ b
+        → (after ≡ before) ⊎ AsksToHold g h.group n h.holds.records before after
+    at true e = inl (h.holds.few (ltb-true (length h.holds.records) LEAST_AHEAD e))
+    at false e = inr (h.holds.enough (ltb-false (length h.holds.records) LEAST_AHEAD e))

@@ -30,3 +30,4 @@ pub mod HeldTails
 pub mod ReportedChanges
 pub mod LentFeeds
 pub mod NewTails
+pub mod NewSubmits

@@ -49,7 +49,7 @@ no-second tail e may =
     may).0.b
 
 -- the number in the name of the first record
-abbrev first-number : List Entry → ℕ
+abbrev pub first-number : List Entry → ℕ
 first-number [] = 0
 first-number (r ∷ records) = (name_of r).seq
 

@@ -1,5 +1,7 @@
 -- When a store may hold records ahead, and what a worker has its store do about them.
-use Rattle.std.specs.Prelude.{List, Result, ℕ, ◌≡◌, ◌⊎◌}
+use Rattle.std.specs.Prelude.{List, Option, Result, [], length, ℕ, ◌<◌, ◌≡◌, ◌≤◌}
+use Rattle.urb_foresight.specs.ForeseenDrafts.{ForeseesCalls}
+use Rattle.urb_names.specs.declared.refusal.NoMemory.{NoMemory}
 use Rattle.urb_stable.specs.Entries.{Entry}
 use Rattle.urb_stable.specs.KeptTails.{KeepsTail}
 use Rattle.urb_stable.specs.Records.{pend}
@@ -12,6 +14,7 @@ use Rattle.urb_world.specs.Step.{Event}
 use Rattle.urb_world.specs.StoresAhead.{MayFollow}
 use Rattle.urb_world.specs.World.{World, stored}
 use Rattle.urb_show.specs.Pasts.{IsLedTo}
+use Rattle.urb_turn.specs.declared.hub.TheConstants.{LEAST_AHEAD}
 
 -- in each world that the group shows, node n is ready
 abbrev pub IsReadyIn : GroupView → ℕ → Type 0
@@ -25,18 +28,28 @@ pub record MayHold (group : GroupView) (n : ℕ) (records : List Entry) : Type 0
       → MayFollow w.size (stored w) n (stored w n) records
   pub short : AreShort (pend records)
 
--- A store of node n was asked once to hold records ahead, and gave this answer. A history led from the
--- opened group to one in which they may follow what the node has stored.
-pub record AsksToHold {S A : Type 0} (g : Ghosts S A) (opened : GroupView) (n : ℕ)
-    (before after : S) : Type 0 where
-  pub past : List Event
-  pub group : GroupView
-  pub leads : IsLedTo opened past group
-  pub records : List Entry
+-- A store of node n was asked once to hold these records ahead, and gave this answer. The records
+-- may follow what the node has stored.
+pub record AsksToHold {S A : Type 0} (g : Ghosts S A) (group : GroupView) (n : ℕ)
+    (records : List Entry) (before after : S) : Type 0 where
   pub may : MayHold group n records
   pub answer : Result (Unit {0}) StoreFault
   pub keeps : KeepsTail g before records answer after
 
--- a store of node n was asked once to hold records ahead, or it stayed as it was
-abbrev pub Prepares : {S A : Type 0} → Ghosts S A → GroupView → ℕ → S → S → Type 0
-Prepares g opened n before after = (after ≡ before) ⊎ AsksToHold g opened n before after
+-- What a store of node n was asked to do for these events, which wait there. These records were
+-- foreseen of them. If there are at least LEAST_AHEAD of them, the store was asked once to hold just
+-- these ahead. Otherwise it stayed as it was.
+pub record HoldsForeseen {S A : Type 0} (g : Ghosts S A) (group : GroupView) (n : ℕ)
+    (events : List Event) (refused : Option NoMemory) (before after : S) : Type 0 where
+  pub records : List Entry
+  pub foreseen : ForeseesCalls group n events [] records refused
+  pub few : length records < LEAST_AHEAD → after ≡ before
+  pub enough : LEAST_AHEAD ≤ length records → AsksToHold g group n records before after
+
+-- a history led from the opened group to one of which a store of node n was asked to do just that
+pub record Prepares {S A : Type 0} (g : Ghosts S A) (opened : GroupView) (n : ℕ)
+    (events : List Event) (refused : Option NoMemory) (before after : S) : Type 0 where
+  pub past : List Event
+  pub group : GroupView
+  pub leads : IsLedTo opened past group
+  pub holds : HoldsForeseen g group n events refused before after

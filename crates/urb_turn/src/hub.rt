@@ -1,6 +1,7 @@
 //! The Hub: the lock around the House, and one job done with it.
 
-ghost use Rattle.std.specs.Prelude.{◌≡◌, ◌+◌, ◌<◌, ◌^◌, IfOk, IfErr, IsTrue, OnErr, vec_len};
+ghost use Rattle.std.specs.Prelude.{◌≡◌, ◌+◌, ◌<◌, ◌^◌, IfOk, IfErr, IsTrue, OnErr, map, vec_len};
+ghost use Rattle.urb_foresight.specs.ForeseenDrafts.{event_of};
 ghost use Rattle.urb_group.specs.GroupViews.{Shows};
 ghost use Rattle.urb_world.specs.World.{World};
 ghost use Rattle.urb_turn.specs.Counting.{count_after, events_in};
@@ -25,9 +26,9 @@ use urb_names::{NoMemory, NodeId, Packet};
 use urb_show::{House, HouseName};
 use urb_stable::Stable;
 
-// The least number of records that a store is asked to hold ahead. A record alone is stored as its
-// node drafts it.
-const LEAST_AHEAD: usize = 2;
+/// The least number of records that a store is asked to hold ahead. A record alone is stored as its
+/// node drafts it.
+pub const LEAST_AHEAD: usize = 2;
 
 /// A worker calls it before its store keeps a draft, and holds no lock meanwhile. Tests use it to
 /// delay a store.
@@ -137,15 +138,17 @@ impl<K: HouseName, L: HubName> Hub<K, L> {
         (finished, tally)
     }
 
-    /// Foresees what these calls will draft at a node, and has its store hold those records ahead.
-    /// Then one sync serves them all. If that is fewer than two records, or the node isn't ready, or
-    /// they may not follow its stored ones (`Group::may_follow`), the store isn't asked. It takes the
-    /// lock once, and the lock is free while the store works.
+    /// Foresees what these calls will draft at a node (`foresee_calls`), and has its store hold those
+    /// records ahead. Then one sync serves them all. If they are fewer than `LEAST_AHEAD`, the store
+    /// isn't asked. It takes the lock once, and the lock is free while the store works.
     ///
     /// Whatever the store answers, it still matches its node. If the storage failed, the node
     /// doesn't know of it: its next turn that drafts a record takes it down. So does a draft that
     /// differs from what was foreseen. Do the calls next, in this order, and nothing else at the
     /// node between them.
+    ///
+    /// If memory was refused, it returns the refusal, and foresaw no further call. The store holds
+    /// what was foreseen before.
     pub fn keep_ahead<S: Stable<Alloc = Global>, G: Gate, R: Wait>(
         &self,
         rt: &R,
@@ -155,31 +158,30 @@ impl<K: HouseName, L: HubName> Hub<K, L> {
         store: &mut S,
         gate: &G,
         tally: Tally<K, L>,
-    ) -> Tally<K, L>
+    ) -> (Tally<K, L>, Option<NoMemory>)
         // It counts no event.
-        ensures events { result.events ≡ tally.events }
-        ensures prepares { Prepares S.Stable K.origin node store.old store.new }
+        ensures events { result.0.events ≡ tally.events }
+        // The store is asked once to hold just what is foreseen of the calls, or it stays as it was.
+        ensures prepares { Prepares S.Stable K.origin node (map (event_of node) calls.now) result.1
+            store.old store.new }
         // If the store matched the node at the end of the last loan, it matches the node after all
         // events until this one.
         ensures keeps { (start : World) → Shows K.origin start
             → IsStoreSince S.Stable start tally.last node store.old
-            → IsStoreSince S.Stable start result.last node store.new }
+            → IsStoreSince S.Stable start result.0.last node store.new }
     {
         let mut tally = tally;
         let mut tallied = self.tallied.lock(rt);
-        let mut records = tallied.foresee(alloc, node, calls).into_records();
+        let (mut records, refused) = tallied.foresee(alloc, node, calls);
         if records.len() < LEAST_AHEAD {
             MutexGuard::unlock(tallied);
-            return tally;
+            return (tally, refused);
         }
-        let may_hold = tallied.look(node, &records, &mut tally);
+        tallied.look(node, &mut tally);
         MutexGuard::unlock(tallied);
-        if !may_hold {
-            return tally;
-        }
         gate.before_store(node);
         let _answer = store.store_ahead(&mut records);
-        tally
+        (tally, refused)
     }
 
     /// A feed of a node, of the group as it is now. It takes the lock once.

@@ -8,8 +8,7 @@
 //! Once all tallies are returned, the Hub returns a House that has counted exactly these events.
 //!
 //! A store may hold several records ahead of their jobs. `Hub::keep_ahead` foresees what waiting
-//! calls will draft. It has the store keep those records by one call, if they may follow the stored
-//! ones of the node.
+//! calls will draft. If those are two records or more, it has the store keep just them by one call.
 //!
 //! How the calls go together, in a function that is generic over the names of the House and of the
 //! Hub, `K` and `L`:
@@ -41,7 +40,7 @@ pub mod worked;
 pub use change::{Change, Reporter, Silent, change_of};
 pub use counting::tally::{HubName, Tally};
 pub use handled_datagram::HandledDatagram;
-pub use hub::{Gate, Hub, OpenGate};
+pub use hub::{Gate, Hub, LEAST_AHEAD, OpenGate};
 pub use job::Job;
 pub use loans::copy_moment;
 pub use settling::{Settling, Unsettled};

@@ -57,6 +57,10 @@ abbrev pub is_as_told : World → Carried → Bool
 is_as_told w packet =
     not (says_certified packet.flags) || has_certificate w packet.source packet.name
 
+-- whether the packet's source is a node of the group, and has stored what the packet says
+abbrev pub is_borne_out : World → Carried → Bool
+is_borne_out w packet = is_node w.size.n packet.source && truthful w packet
+
 -- whether node p would take the packet if it is ready
 abbrev pub is_taken : World → ℕ → Carried → Bool
 is_taken w p packet = is_for w p packet && truthful w packet

@@ -3,7 +3,7 @@
 use super::{Coming, Form, Waiting, group_of, make_waiting, records};
 use std::alloc::Global;
 use std::test::Fail;
-use urb_foresight::{Foreseen, Foresight, MAX_BATCH, foresee};
+use urb_foresight::{Foreseen, Foresight, MAX_BATCH, foresee, foresee_calls};
 use urb_group::*;
 use urb_names::MAX_PAYLOAD;
 use urb_stable::{StoredBatch, store_ahead};
@@ -113,15 +113,16 @@ const ROWS: [Row; 13] = [
         foreseen: &[DRAFT, DRAFT, DRAFT, DRAFT],
     },
     Row {
-        fact: "a packet whose source lacks the message or the certificate drafts nothing",
+        fact: "a packet for another node drafts nothing, nor does one of a node that isn't there",
         images: THREE,
         node: 3,
         calls: &[
-            Coming::Arrive(2, 1, 2, false),
-            Coming::Arrive(1, 1, 1, true),
-            Coming::Arrive(2, 2, 1, false),
+            Coming::Stray(1, 2, 1, 1),
+            Coming::Stray(1, 2, 1, 2),
+            Coming::Arrive(4, 1, 1, false),
+            Coming::Arrive(1, 4, 1, false),
         ],
-        foreseen: &[NONE, NONE, NONE],
+        foreseen: &[NONE, NONE, NONE, NONE],
     },
     Row {
         fact: "bytes that are no packet draft nothing",
@@ -300,6 +301,67 @@ fn some_calls_are_left_unsure(rt: HostRuntime) -> Result<(), Fail> {
         foresee_at(rt.alloc(), &images, 1, false, arrival),
         Some(UNSURE)
     );
+    Ok(())
+}
+
+// Node 2 has stored the second message too, and both nodes have certified the first one.
+const MORE: &[&[Form]] = &[
+    &[Form::PendCert(1, 1), Form::Pend(1, 2)],
+    &[Form::PendCert(1, 1), Form::PendCert(1, 2)],
+    &[],
+];
+
+#[test]
+fn a_packet_is_unsure_until_its_source_has_stored_what_it_says(rt: HostRuntime) -> Result<(), Fail> {
+    let message = Coming::Arrive(2, 1, 2, false);
+    assert_eq!(rt;
+        foresee_at(rt.alloc(), THREE, 3, false, message),
+        Some(UNSURE)
+    );
+    assert_eq!(rt; foresee_at(rt.alloc(), MORE, 3, false, message), Some(DRAFT));
+    let certificate = Coming::Arrive(1, 1, 1, true);
+    assert_eq!(rt;
+        foresee_at(rt.alloc(), THREE, 3, false, certificate),
+        Some(UNSURE)
+    );
+    assert_eq!(rt;
+        foresee_at(rt.alloc(), MORE, 3, false, certificate),
+        Some(DRAFT)
+    );
+    Ok(())
+}
+
+// How many records are foreseen of these calls of node 3 together, and whether memory was refused.
+fn foresee_together(alloc: Global, comings: &[Coming]) -> Option<(usize, bool)> {
+    let group = group_of(alloc, THREE)?;
+    let node = NodeId::new(3)?;
+    let mut all = Vec::new(alloc);
+    for coming in comings {
+        all.push(make_waiting(alloc, node, *coming)?).ok()?;
+    }
+    let mut calls = Vec::new(alloc);
+    for waiting in &all {
+        calls.push(waiting.call()).ok()?;
+    }
+    let (foresight, refused) = foresee_calls(&group, alloc, node, &calls);
+    Some((foresight.records().len(), refused.is_some()))
+}
+
+#[test]
+fn calls_are_foreseen_up_to_the_first_unsure_one(rt: HostRuntime) -> Result<(), Fail> {
+    let sure = [
+        Coming::Submit(7, 1, b"a"),
+        Coming::Bytes(b""),
+        Coming::Submit(7, 2, b"b"),
+    ];
+    assert_eq!(rt; foresee_together(rt.alloc(), &sure), Some((2, false)));
+    let unsure = [
+        Coming::Submit(7, 1, b"a"),
+        Coming::Arrive(2, 1, 2, false),
+        Coming::Submit(7, 2, b"b"),
+    ];
+    assert_eq!(rt; foresee_together(rt.alloc(), &unsure), Some((1, false)));
+    assert_eq!(rt; foresee_together(rt.alloc(), &[]), Some((0, false)));
     Ok(())
 }
 

@@ -2,7 +2,7 @@
 
 use std::alloc::{Allocator, Global};
 use std::test::Fail;
-use urb_foresight::{Foreseen, Foresight, WaitingCall, foresee};
+use urb_foresight::{Foreseen, Foresight, WaitingCall, foresee, foresee_calls};
 use urb_group::*;
 use urb_refusing::Refusing;
 
@@ -48,5 +48,44 @@ fn each_growth_may_be_refused(rt: HostRuntime) -> Result<(), Fail> {
         None => false,
     };
     assert!(rt; calmly && !second.has_failed());
+    Ok(())
+}
+
+// How many records are foreseen of two submits together, and whether memory was refused.
+fn foresee_together<A: Allocator + Copy>(heap: A, calm: A) -> Option<(usize, bool)> {
+    let config = Config::new(3, 10)?;
+    let group = Group::new(calm, config).ok()?;
+    let client = ClientId::new(7)?;
+    let payload = Payload::copied(calm, b"a").ok()?;
+    let payload = &payload;
+    let calls = [
+        WaitingCall::Submit {
+            client,
+            number: 1,
+            payload,
+        },
+        WaitingCall::Submit {
+            client,
+            number: 2,
+            payload,
+        },
+    ];
+    let (foresight, refused) = foresee_calls(&group, heap, NodeId::new(1)?, &calls);
+    Some((foresight.records().len(), refused.is_some()))
+}
+
+#[test]
+fn a_refusal_ends_what_is_foreseen(rt: HostRuntime) -> Result<(), Fail> {
+    let calm = Refusing::new(rt.alloc(), 0);
+    let first = Refusing::new(rt.alloc(), 1);
+    assert_eq!(rt;
+        foresee_together::<&Refusing<Global>>(&first, &calm),
+        Some((0, true))
+    );
+    let none = Refusing::new(rt.alloc(), 100);
+    assert_eq!(rt;
+        foresee_together::<&Refusing<Global>>(&none, &calm),
+        Some((2, false))
+    );
     Ok(())
 }

@@ -180,3 +180,24 @@ with_a_fifth = record {
   nodes =
       no_view ∷ no_view ∷ no_view ∷ no_view ∷ record no_view { state = Down None } ∷ [];
 }
+
+-- two submits of a client at node 1
+abbrev pub two_submits : List Event
+two_submits = Submit 1 (message 7 1 "") ∷ Submit 1 (message 7 2 "") ∷ []
+
+-- the ghost values of a store in memory that holds ahead what it has, and has given out nothing
+abbrev pub all_ahead : Ghosts Memory (Unit {0})
+all_ahead = record (in_memory (Unit {0})) {
+  certain = λ s. [];
+  place = λ s. 1;
+  leaves_only = λ s P. P [];
+  ahead = λ s. s.certain;
+}
+
+-- a store that has the records of two submits
+abbrev pub holding_both : Memory
+holding_both = record empty_memory { certain = pending 1 1 ∷ pending 1 2 ∷ [] }
+
+-- a store that has the records of the first and a third submit
+abbrev pub holding_others : Memory
+holding_others = record empty_memory { certain = pending 1 1 ∷ pending 1 3 ∷ [] }

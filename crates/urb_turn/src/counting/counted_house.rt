@@ -1,7 +1,8 @@
 //! The value under a Hub's lock: the House, with the book of its events and the last loans.
 
-ghost use Rattle.std.specs.Prelude.{◌≡◌, ◌+◌, ◌-◌, ◌<◌, ◌≤◌, IfOk, IfSome, IsTrue, OnErr, None};
-ghost use Rattle.std.specs.Prelude.{if◌then◌else◌, List, slice_set, true, vec_len};
+ghost use Rattle.std.specs.Prelude.{◌≡◌, ◌+◌, ◌-◌, ◌<◌, ◌≤◌, [], IfOk, IfSome, IsTrue, OnErr, None};
+ghost use Rattle.std.specs.Prelude.{if◌then◌else◌, length, List, map, slice_set, true, vec_len};
+ghost use Rattle.urb_foresight.specs.ForeseenDrafts.{ForeseesCalls, event_of};
 ghost use Rattle.urb_feed.specs.Feeds.{IsPortion};
 ghost use Rattle.urb_group.specs.GroupViews.{IsSound};
 ghost use Rattle.urb_world.specs.RecoveryPlans.{after};
@@ -14,7 +15,7 @@ ghost use Rattle.urb_turn.specs.Loans.{AreLoans, IsLoan};
 ghost use Rattle.urb_turn.specs.NodeFeeds.{BeginsFeed};
 ghost use Rattle.urb_turn.specs.Stages.{is_stored};
 ghost use Rattle.urb_turn.specs.Turns.{Begins, Finishes};
-ghost use Rattle.urb_turn.specs.KeptTails.{IsReadyIn, MayHold};
+ghost use Rattle.urb_turn.specs.KeptTails.{MayHold};
 ghost use Rattle.urb_turn.specs.LastLoans.{AllRestSince};
 ghost use Rattle.urb_turn.specs.internal.CountedHouses.{AreLeftSince};
 ghost use Rattle.urb_turn.specs.internal.LoanEnds.{AllRest, IsNextLoan};
@@ -28,8 +29,7 @@ use std::marker::Model;
 use std::sync::Wait;
 use std::sync::ledger::{Book, Share};
 use urb_feed::Feed;
-use urb_foresight::{Foreseen, Foresight, WaitingCall, foresee};
-use urb_group::State;
+use urb_foresight::{WaitingCall, foresee_calls};
 use urb_names::{Message, NoMemory, NodeId, Packet};
 use urb_show::{House, HouseName, Moment};
 use urb_stable::{Record, Stable, recall_records};
@@ -81,26 +81,6 @@ fn end_loan<K: HouseName, L: HubName>(
 {
     last.note(place_of(node), copy_moment(&end));
     tally.end_loan(if is_known { end } else { None });
-}
-
-// Says whether a node is ready.
-#[tactic(auto, using(crate::proofs::HeldTails::is_ready))]
-fn is_ready<K: HouseName>(house: &House<K>, node: NodeId) -> bool
-    ensures { IsTrue result → IsReadyIn house.now.group node }
-{
-    matches!(house.state(node), Some(State::Ready))
-}
-
-// Says whether a node is ready, and these records may follow its stored ones.
-#[tactic(auto, using(crate::proofs::HeldTails::may_hold))]
-fn may_hold<K: HouseName>(house: &House<K>, node: NodeId, records: &[Record<Message>]) -> bool
-    ensures { IsTrue result → MayHold house.now.group node records.now }
-{
-    recall_records(records);
-    if !is_ready(house, node) {
-        return false;
-    }
-    house.group().may_follow(node, records)
 }
 
 impl<K: HouseName, L: HubName> CountedHouse<K, L> {
@@ -169,37 +149,32 @@ impl<K: HouseName, L: HubName> CountedHouse<K, L> {
         turn
     }
 
-    // Foresees what these calls will draft at a node, until one of them can't be foreseen. It is a
-    // prediction: nothing rests on it.
+    // Foresees what these calls will draft at a node. If that is any records, its store may hold
+    // them ahead.
     pub(crate) fn foresee(
         &self,
         alloc: Global,
         node: NodeId,
         calls: &[WaitingCall<'_>],
-    ) -> Foresight {
-        let mut foresight = Foresight::new(alloc);
-        for call in calls {
-            match foresee(self.house.group(), alloc, node, &mut foresight, call) {
-                Ok(Foreseen::Draft) | Ok(Foreseen::NoDraft) => {}
-                Ok(Foreseen::Unsure) | Err(_) => return foresight,
-            }
-        }
-        foresight
+    ) -> (Vec<Record<Message>>, Option<NoMemory>)
+        ensures sound { IsSound self.now.house.group }
+        ensures leads { IsLedTo K.origin self.now.house.past self.now.house.group }
+        ensures foreseen { ForeseesCalls self.now.house.group node (map (event_of node) calls.now)
+            [] result.0.items result.1 }
+        ensures may { 0 < length result.0.items
+            → MayHold self.now.house.group node result.0.items }
+    {
+        self.house.recall();
+        let (foresight, refused) = foresee_calls(self.house.group(), alloc, node, calls);
+        let records = foresight.into_records();
+        recall_records(&records);
+        (records, refused)
     }
 
-    // Says whether a node is ready, and these records may follow its stored ones. It is a loan
-    // without an event.
+    // A loan to the worker of a node, without an event.
     #[tactic(auto, using(crate::proofs::LastLoans::looked_on, crate::proofs::LastLoans::is_next_loan))]
-    pub(crate) fn look(
-        &mut self,
-        node: NodeId,
-        records: &[Record<Message>],
-        tally: &mut Tally<K, L>,
-    ) -> bool
+    pub(crate) fn look(&mut self, node: NodeId, tally: &mut Tally<K, L>)
         ensures same { self.new.house ≡ self.old.house }
-        ensures sound { IsSound self.old.house.group }
-        ensures leads { IsLedTo K.origin self.old.house.past self.old.house.group }
-        ensures may { IsTrue result → MayHold self.old.house.group node records.now }
         ensures tally { tally.new.events ≡ tally.old.events }
         ensures last { IsNextLoan node tally.old.last self.old.house.past self.old.house.past
             tally.new.last }
@@ -212,10 +187,8 @@ impl<K: HouseName, L: HubName> CountedHouse<K, L> {
         } = self;
         house.recall();
         let is_known = last.has_ended_at(place_of(node), tally.last());
-        let may_hold = may_hold(house, node, records);
         let end = house.mark();
         end_loan(last, node, tally, is_known, end);
-        may_hold
     }
 
     // Finishes a turn at the worker of a node, and counts its event.
