@@ -33,7 +33,7 @@ use Rattle.urb_daemon.specs.internal.StoresInside.{LeavesInsideNode, LeavesTail}
 
 -- ---- a beginning of what may follow
 
--- a beginning of a tail that may follow may follow, too
+-- if a tail may follow some records, so may the first part of that tail
 follow-part : (size : Limits) (images : ℕ → List Entry) (p : ℕ) (records given tail : List Entry)
     → MayFollow size images p records (given ++ tail) → MayFollow size images p records given
 follow-part size images p records [] tail may = tt

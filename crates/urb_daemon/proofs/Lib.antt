@@ -5,7 +5,8 @@
 -- the stop. If it didn't open, the stores still hold what the stop had left. Either file may be
 -- read first. ResumedRuns joins them for journals in the files that a stop had left (`resumes`).
 -- StoresInside says what a stop leaves of a journal inside a store with records ahead
--- (`inside-leaves`), and FilesInside what its files then hold (`inside_files`).
+-- (`inside-leaves`), and FilesInside what its files then hold (`inside_files`). FilesAtKills says
+-- that of a kill at any moment (`killed_files`), and of one amid a batch (`batch_files`).
 -- AheadRuns and WrappedJournals say the same of stores that are wrapped, so that they may hold
 -- records ahead of their nodes (`ran_ahead`, `resumes_ahead`).
 -- Lives says that nothing is lost over any number of starts (`lives-shown`, `lives-stored`).
@@ -18,5 +19,6 @@ mod RunsAfterStop
 mod ResumedRuns
 mod StoresInside
 mod FilesInside
+mod FilesAtKills
 mod StoresComeBack
 mod WrappedJournals

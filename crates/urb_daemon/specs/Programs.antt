@@ -22,11 +22,11 @@ use Rattle.urb_folder.specs.OpenedJournals.{AreOfNodes}
 use Rattle.urb_folder.specs.StoppedFiles.{HasLeft}
 
 module _ {J A : Type 0} (g : Ghosts J A) (node : J → ℕ) (held : ℕ → Image) where
-  -- A group ran over the journals of its folder. There was one for each node, and each was found in
-  -- what its node's files held. Each was wrapped in a store that may hold records ahead of its
-  -- node. The group went on from what a stop had left in the journals, or in the files. The
-  -- journals are closed as their nodes' turns left them. Standard output, which has these bytes at
-  -- last, and the status show how the run ended.
+  -- A group ran over the journals of its folder, one for each node. The opening found in each
+  -- journal what its node's files held. The run wrapped each journal in a store that may hold
+  -- records ahead of its node. If a stop had left the journals or the files, the group went on from
+  -- there. The run then closed the journals as their nodes' turns had left them. Its status, and
+  -- these bytes on standard output, show how it ended.
   pub record RanFolder (size : Limits) (new : Option (List ℕ)) (status : ℕ) : Type 0 where
     pub journals : List J
     pub closed : List J

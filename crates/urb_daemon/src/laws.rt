@@ -1,7 +1,8 @@
 //! The laws about a group over any number of starts. Each law is the contract of a function that
 //! does nothing.
 
-ghost use Rattle.std.specs.Prelude.{◌≡◌, ◌<◌, ◌≤◌, IsTrue, List, Some, [], length, slice_get, suc, ℕ};
+ghost use Rattle.std.specs.Prelude.{◌≡◌, ◌<◌, ◌≤◌, ◌++◌, ◌⊎◌, IsTrue, List, Some, [], length};
+ghost use Rattle.std.specs.Prelude.{slice_get, suc, ℕ};
 ghost use Rattle.sqlite.specs.Files.{file_state};
 ghost use Rattle.sqlite_wal.specs.Recovery.{Image};
 ghost use Rattle.urb_names.specs.LabelsAndContents.{Content, Label, Limits};
@@ -14,10 +15,13 @@ ghost use Rattle.urb_stable.specs.DeliveredLogs.{entries};
 ghost use Rattle.urb_stable.specs.Entries.{Entry};
 ghost use Rattle.urb_world.specs.Acceptance.{HasStored};
 ghost use Rattle.urb_group.specs.GroupViews.{GroupView, IsSound, Shows};
-ghost use Rattle.urb_world.specs.Step.{Submit, step};
+ghost use Rattle.urb_world.specs.RecoveryPlans.{after};
+ghost use Rattle.urb_world.specs.Step.{Event, Submit, step};
 ghost use Rattle.urb_group.specs.StoreContents.{WouldLeave, WouldLeaveAhead};
 ghost use Rattle.urb_world.specs.StoresAhead.{IsAsStored};
 ghost use Rattle.urb_world.specs.World.{World, image_of, opened, started, stored};
+ghost use Rattle.urb_show.specs.Pasts.{IsLedTo};
+ghost use Rattle.urb_turn.specs.KilledBatches.{AreKilledAt, IsHoldingAt};
 ghost use Rattle.urb_turn.specs.NodeStores.{HaveTails};
 ghost use Rattle.urb_sqlite.specs.FoundJournals.{HoldsRecords};
 ghost use Rattle.urb_folder.specs.StoppedFiles.{HasLeft, HoldsStopped};
@@ -98,4 +102,42 @@ pub fn a_stop_inside_leaves_what_the_next_start_takes<D: NodeDisk>(
         (file_state s.store.journal.conn).may_leave (held (suc i))) →
         ((i : ℕ) → length stores.now ≤ i → i < size.n → HoldsRecords (held (suc i)) []) →
         (v : World) × IsAsStored w v × HasLeft held old v size }
+{}
+
+/// The same of a kill at any moment of a run. The history so far led from the opened group to this
+/// one. Each worker is idle, or its store works in a turn, or its store is asked to hold a batch of
+/// records ahead. (The law `a_kill_amid_a_batch_leaves_all_or_none` of `urb_turn` says why this
+/// covers a kill in the middle of a call.)
+pub fn a_kill_leaves_what_the_next_start_takes<D: NodeDisk>(stores: &[AheadStore<Journal<D>>])
+    ensures { (held : ℕ → Image) (first old : GroupView) (start : World) (past : List Event)
+        (size : Limits) →
+        IsSound first → Shows first start → IsLedTo first past old →
+        length old.nodes ≡ old.size.n → old.size.n ≤ size.n →
+        length old.nodes ≡ length stores.now →
+        AreKilledAt (ghosts_over ⟦<Journal<D> as Stable>⟧) first start past stores.now →
+        ((i : ℕ) (s : _) → slice_get stores.now i ≡ Some s →
+        IsSoundStore ⟦<Journal<D> as Stable>⟧ s) →
+        ((i : ℕ) (s : _) → slice_get stores.now i ≡ Some s →
+        HoldsStopped (⟦<Journal<D> as Stable>⟧.is_clean s.store)
+        (file_state s.store.journal.conn).may_leave (held (suc i))) →
+        ((i : ℕ) → length stores.now ≤ i → i < size.n → HoldsRecords (held (suc i)) []) →
+        (v : World) × IsAsStored (after start past) v × HasLeft held old v size }
+{}
+
+/// A kill may come while a store is asked to hold a batch of records ahead. Then the files of its
+/// journal hold the records that the node has stored, or these and the whole batch. They never hold
+/// a part of it. If the call was out of place, the store is as before.
+pub fn a_kill_amid_a_batch_leaves_files_with_all_or_none<D: NodeDisk>(
+    store: &AheadStore<Journal<D>>,
+)
+    ensures { (image : Image) (first : GroupView) (start : World) (past : List Event) (n : ℕ)
+        (batch : List Entry) (before : _) →
+        IsSound first → Shows first start →
+        IsHoldingAt (ghosts_over ⟦<Journal<D> as Stable>⟧) first start past n batch before
+        store.now →
+        HoldsStopped (⟦<Journal<D> as Stable>⟧.is_clean store.now.store)
+        (file_state store.now.store.journal.conn).may_leave image →
+        (store.now ≡ before)
+        ⊎ (HoldsRecords image (stored (after start past) n)
+        ⊎ HoldsRecords image (stored (after start past) n ++ batch)) }
 {}

@@ -35,6 +35,7 @@ mod sockets;
 mod stage;
 mod standard_streams;
 mod surroundings;
+pub mod worked;
 
 pub use console::Console;
 pub use error_output::{ErrorOutput, FIRST_SECOND, LAST_WAIT, TEXT_ROOM};

@@ -1,1 +1,2 @@
+pub mod ForesightExamples
 pub mod ReachedWorlds

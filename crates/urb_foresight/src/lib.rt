@@ -34,6 +34,7 @@ mod foresight;
 mod predictions;
 mod taken_packets;
 mod waiting_call;
+pub mod worked;
 
 pub use foreseen::Foreseen;
 pub use foresight::{Foresight, MAX_BATCH};

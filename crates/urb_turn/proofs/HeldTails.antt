@@ -138,7 +138,7 @@ module _ {S A : Type 0} (g : Ghosts S A) (w : World) (n : ℕ) (records : List E
 
 module _ {S A : Type 0} (g : Ghosts S A) (opened : GroupView) (n : ℕ) (group : GroupView)
     (past : List Event) (start : World) (opening : Shows opened start) where
-  -- a look at the House is a loan, in which nothing happens
+  -- A worker that looks at the House changes nothing there. Its store still matches its node.
   pub looked_since : (first last : Option (List Event)) (store : S)
       → IsNextLoan n first past past last → IsStoreSince g start first n store
       → IsStoreSince g start last n store

@@ -10,8 +10,9 @@
 -- and its node has rested since then (`turn_since`).
 -- Then read what a turn reports. Reported changes have happened (`reported-so`,
 -- ReportedChanges), and events are counted (`ends_count`, EventCounts). LentFeeds is about the
--- feeds of a House, and HeldTails about records that a store is asked to hold ahead. The folder
--- `steps` of `urb_world` says what an event does, and the folders `stops` of `urb_world` and
+-- feeds of a House, and HeldTails about records that a store is asked to hold ahead. KilledBatches
+-- says what a kill leaves at any moment, also amid that call (`killed-leaves`, `all-or-none`). The
+-- folder `steps` of `urb_world` says what an event does, and the folders `stops` of `urb_world` and
 -- `urb_group` say what a stop does.
 mod Common
 pub mod EventCounts
@@ -27,6 +28,7 @@ pub mod TurnSteps
 pub mod OtherNodes
 pub mod LastLoans
 pub mod HeldTails
+pub mod KilledBatches
 pub mod ReportedChanges
 pub mod LentFeeds
 pub mod NewTails

@@ -122,9 +122,19 @@ draft-sure e = cc
 -- both records are foreseen of the two submits
 pub both-foreseen : ForeseesCalls new_four 1 two_submits [] (pending 1 1 ∷ pending 1 2 ∷ []) None
 both-foreseen =
-    inr (foreseen.Draft, pending 1 1 ∷ [], draft-sure, (pending 1 1, refl, first-foreseen),
-    inr (foreseen.Draft, pending 1 1 ∷ pending 1 2 ∷ [], draft-sure,
-    (pending 1 2, refl, second-foreseen), (refl, refl)))
+    inr (
+      foreseen.Draft,
+      pending 1 1 ∷ [],
+      draft-sure,
+      (pending 1 1, refl, first-foreseen),
+      inr (
+        foreseen.Draft,
+        pending 1 1 ∷ pending 1 2 ∷ [],
+        draft-sure,
+        (pending 1 2, refl, second-foreseen),
+        (refl, refl),
+      ),
+    )
 
 -- a store may hold them ahead
 pub both-held : MayHold new_four 1 (pending 1 1 ∷ pending 1 2 ∷ [])

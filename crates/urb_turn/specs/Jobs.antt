@@ -30,7 +30,8 @@ abbrev pub IsCall : {A : Type 0} → ℕ → Bool → Event → Option (WaitingC
 IsCall p true event called = (called ≡ None → ⊥) × IfSome called (λ call. event_of p call ≡ event)
 IsCall p false event called = called ≡ None
 
--- The call by which the job may draft a record at node p: a submit to p, or an arrival at p.
+-- A submit to node p, or an arrival there, may make the node draft a record. If the job is one of
+-- these, this is its call. Any other job has no call.
 abbrev pub CallsAt : {A : Type 0} → ℕ → Job → Option (WaitingCall A) → Type 0
 CallsAt p (job.Submit q client number payload) called =
     IsCall p (q == p) (Submit p (record { client = client; number = number; payload = payload }))

@@ -11,5 +11,6 @@ pub mod KeptTails
 pub mod KilledStores
 pub mod LastLoans
 pub mod WholeTurns
+pub mod KilledBatches
 pub mod NodeFeeds
 pub mod internal

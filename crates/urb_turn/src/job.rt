@@ -63,8 +63,8 @@ impl Job {
         matches!(self, Job::Crash(_) | Job::Restart(_))
     }
 
-    /// The call by which the job may draft a record at a node: a submit to the node, or an arrival
-    /// there. Any other job drafts none.
+    /// The job's call, if the job is a submit to this node or an arrival there. Such a job may make
+    /// the node draft a record. Any other job has no call.
     pub fn call_at(&self, at: NodeId) -> Option<WaitingCall<'_>>
         ensures { CallsAt at self.now result }
     {

@@ -2,9 +2,11 @@
 //!
 //! These functions are for proofs alone, since they do nothing.
 
-ghost use Rattle.std.specs.Prelude.{◌≡◌, ◌≢◌, ◌++◌, ◌∷◌, [], List, Some, slice_get, suc, true, ℕ};
+ghost use Rattle.std.specs.Prelude.{◌≡◌, ◌≢◌, ◌++◌, ◌∷◌, ◌⊎◌, [], List, Some, slice_get, suc, true};
+ghost use Rattle.std.specs.Prelude.{ℕ};
 ghost use Rattle.std.specs.declared.alloc.Global.{Global};
 ghost use Rattle.urb_names.specs.declared.refusal.Refusal.TheVariants.{Stale};
+ghost use Rattle.urb_stable.specs.AheadStores.{AheadView, ghosts_over};
 ghost use Rattle.urb_stable.specs.Doubts.{Doubted};
 ghost use Rattle.urb_stable.specs.Entries.{Entry};
 ghost use Rattle.urb_stable.specs.PlacedRecords.{Placed};
@@ -21,8 +23,10 @@ ghost use Rattle.urb_group.specs.declared.reply.Reply.TheVariants.{Refused, Stor
 ghost use Rattle.urb_turn.specs.Changes.{HasChanged, change_of};
 ghost use Rattle.urb_turn.specs.Jobs.{runs_at};
 ghost use Rattle.urb_turn.specs.Views.{FinishedView};
+ghost use Rattle.urb_turn.specs.KilledBatches.{AreKilledAt, IsHoldingAt, LeavesAllOrNone};
 ghost use Rattle.urb_turn.specs.KilledStores.{AreCutAt, IsCutAt};
-ghost use Rattle.urb_turn.specs.NodeStores.{HasRested, IsStoreAfter, LeavesAfter, WouldHaveTail};
+ghost use Rattle.urb_turn.specs.NodeStores.{HasRested, HaveTails, IsStoreAfter, LeavesAfter};
+ghost use Rattle.urb_turn.specs.NodeStores.{WouldHaveTail};
 ghost use Rattle.urb_turn.specs.WholeTurns.{IsTurn, IsTurnAt};
 ghost use Rattle.urb_turn.specs.declared.change.Change.{Change};
 ghost use Rattle.urb_turn.specs.declared.change.Change.TheVariants.{Failed};
@@ -134,6 +138,48 @@ pub fn a_kill_leaves_what_a_stop_may_leave<S: Stable<Alloc = Global>>()
     ensures left { (start : World) (past : List Event) (stores : List S)
         → AreCutAt S.Stable start past stores
         → WouldLeave S.Stable (after start past) stores }
+{}
+
+/// The process may be killed while a store is asked to hold records ahead, and so in the middle of
+/// the one call by which its storage keeps them. After a kill nothing more is written. So the kill
+/// leaves what the call leaves if the storage fails from that moment on. These clauses speak of
+/// every answer of the call, and so of that failure too.
+///
+/// The store still matches its node. If it holds the batch over an inner store, a stop leaves there
+/// the node's records, followed by all records of the batch or by none. If the call was out of
+/// place, the store is as before.
+pub fn a_kill_amid_a_batch_leaves_all_or_none<S: Stable<Alloc = Global>>()
+    ensures matches { (opened : GroupView) (start : World) (past : List Event) (n : ℕ)
+        (batch : List Entry) (before new : S)
+        → IsSound opened
+        → Shows opened start
+        → IsHoldingAt S.Stable opened start past n batch before new
+        → IsStoreAfter S.Stable start past n new × IsCutAt S.Stable start past n new }
+    ensures all_or_none { (opened : GroupView) (start : World) (past : List Event) (n : ℕ)
+        (batch : List Entry) (before new : AheadView S)
+        → IsSound opened
+        → Shows opened start
+        → IsHoldingAt (ghosts_over S.Stable) opened start past n batch before new
+        → S.is_clean new.store
+        → (new ≡ before)
+        ⊎ LeavesAllOrNone S.Stable (after start past) n batch new.store }
+{}
+
+/// The process may be killed at any moment of a run: while a worker is idle, while its store works
+/// in a turn, and while its store is asked to hold records ahead. The history so far leads to a
+/// world. In each store the kill leaves what it may leave of the world's node. What the store holds
+/// ahead may follow the node's records.
+pub fn a_kill_at_any_moment_leaves_what_may_follow<S: Stable<Alloc = Global>>()
+    ensures leaves { (opened : GroupView) (start : World) (past : List Event) (stores : List S)
+        → IsSound opened
+        → Shows opened start
+        → AreKilledAt S.Stable opened start past stores
+        → WouldLeave S.Stable (after start past) stores }
+    ensures ahead { (opened : GroupView) (start : World) (past : List Event) (stores : List S)
+        → IsSound opened
+        → Shows opened start
+        → AreKilledAt S.Stable opened start past stores
+        → HaveTails S.Stable (after start past) stores }
 {}
 
 /// What a stop of all nodes may leave, node by node, fits together. It opens a group that goes on

@@ -312,13 +312,18 @@ const MORE: &[&[Form]] = &[
 ];
 
 #[test]
-fn a_packet_is_unsure_until_its_source_has_stored_what_it_says(rt: HostRuntime) -> Result<(), Fail> {
+fn a_packet_is_unsure_until_its_source_has_stored_what_it_says(
+    rt: HostRuntime,
+) -> Result<(), Fail> {
     let message = Coming::Arrive(2, 1, 2, false);
     assert_eq!(rt;
         foresee_at(rt.alloc(), THREE, 3, false, message),
         Some(UNSURE)
     );
-    assert_eq!(rt; foresee_at(rt.alloc(), MORE, 3, false, message), Some(DRAFT));
+    assert_eq!(rt;
+        foresee_at(rt.alloc(), MORE, 3, false, message),
+        Some(DRAFT)
+    );
     let certificate = Coming::Arrive(1, 1, 1, true);
     assert_eq!(rt;
         foresee_at(rt.alloc(), THREE, 3, false, certificate),

@@ -59,7 +59,7 @@ failed_once = record empty_memory { failures = 1 }
 abbrev pub four : World
 four = started (limits 4 10)
 
--- a world of four nodes, of which node 1 has stored a pair
+-- a world of four nodes, in which node 1 has stored a pair
 abbrev pub one_has_stored : World
 one_has_stored = opened (limits 4 10) (image_of ((pending 1 1 ∷ []) ∷ []))
 

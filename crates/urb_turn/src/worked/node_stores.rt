@@ -1,15 +1,19 @@
 //! Worked examples of stores and loans: which store matches its node, and since when a node rests.
 //!
 //! Each of the rows that end in ⊥ breaks one rule alone.
-ghost use Rattle.std.specs.Prelude.{[], ◌∷◌, ◌≡◌, None, Some, false, true};
+ghost use Rattle.std.specs.Prelude.{[], ◌∷◌, ◌≡◌, None, Some, false, suc, true};
 ghost use Rattle.urb_world.specs.Step.{Crash, Tick};
-ghost use Rattle.urb_world.specs.internal.Examples.{pending};
+ghost use Rattle.urb_world.specs.internal.Examples.{filled, pending};
+ghost use Rattle.urb_names.specs.Names.{name};
+ghost use Rattle.urb_names.specs.declared.limits.TheConstants.{MAX_PAYLOAD};
 ghost use Rattle.urb_stable.specs.MemoryStores.{empty_memory};
+ghost use Rattle.urb_stable.specs.declared.record.Record.TheVariants.{Pend};
 ghost use Rattle.urb_turn.specs.KilledStores.{AreCutAt, IsCutAt};
 ghost use Rattle.urb_turn.specs.LastLoans.{AllBegin, AllRestSince};
 ghost use Rattle.urb_turn.specs.Loans.{AreLoans, AreLoansOf, IsLoan};
 ghost use Rattle.urb_turn.specs.NodeStores.{AreElsewhere, AreStoresAfter, HasRested, IsStoreAfter};
-ghost use Rattle.urb_turn.specs.NodeStores.{HasTail, MayHaveTail, WouldHaveTail, is_own};
+ghost use Rattle.urb_turn.specs.NodeStores.{HasTail, HaveTails, HoldNoneAhead, MayHaveTail};
+ghost use Rattle.urb_turn.specs.NodeStores.{WouldHaveTail, is_own};
 ghost use Rattle.urb_turn.specs.internal.TurnExamples.{ahead_of, doubtful, four, holding};
 ghost use Rattle.urb_turn.specs.internal.TurnExamples.{house_of_four, in_two_minds, one_has_stored};
 ghost use Rattle.urb_turn.specs.internal.TurnExamples.{lying, memory};
@@ -63,6 +67,21 @@ pub fn tails_of_new_nodes()
         (record (ahead_of [] (pending 1 2 ∷ [])) { is_clean = λ s. ⊥ }) four 1 empty_memory }
     ensures no_gap_at_a_clean_store { WouldHaveTail (ahead_of [] (pending 1 2 ∷ [])) four 1
         empty_memory → ⊥ }
+    ensures a_long_payload { HasTail (ahead_of [] (Pend (name 1 1) (filled 7 1 (suc MAX_PAYLOAD)) ∷ [])) four 1
+        empty_memory → ⊥ }
+{}
+
+/// Each store of a group may hold records ahead that may follow those of its own node.
+pub fn tails_of_all_new_nodes()
+    ensures of_no_stores { HaveTails (ahead_of [] (pending 1 2 ∷ [])) four [] }
+    ensures of_the_first { HaveTails (ahead_of [] (pending 1 1 ∷ [])) four (empty_memory ∷ []) }
+    ensures not_a_gap { HaveTails (ahead_of [] (pending 1 2 ∷ [])) four (empty_memory ∷ []) → ⊥ }
+    ensures not_the_same_of_the_second { HaveTails (ahead_of [] (pending 1 1 ∷ [])) four
+        (empty_memory ∷ empty_memory ∷ []) → ⊥ }
+    ensures none_is_ahead { HoldNoneAhead memory (holding ∷ holding ∷ []) }
+    ensures none_is_ahead_of_no_stores { HoldNoneAhead (ahead_of [] (pending 1 1 ∷ [])) [] }
+    ensures one_is_ahead { HoldNoneAhead (ahead_of [] (pending 1 1 ∷ [])) (empty_memory ∷ [])
+        → ⊥ }
 {}
 
 /// A stop leaves in a store what it may leave of the node since the node rests.
