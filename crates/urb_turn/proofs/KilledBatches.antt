@@ -54,7 +54,7 @@ module _ {S A : Type 0} (g : Ghosts S A) (opened : GroupView) (start : World) (p
 
   -- the node was ready then
   was-up : is_down (asked.node n).state ≡ false
-  was-up = ap is_down (it.may.ready asked (it.leads start shows))
+  was-up = ap is_down (it.asks.may.ready asked (it.leads start shows))
 
   -- the store matched the node right after the call
   held-at-once : IsStoreAfter g start it.earlier n new
@@ -63,17 +63,17 @@ module _ {S A : Type 0} (g : Ghosts S A) (opened : GroupView) (start : World) (p
         contents = lasting.0;
         lasting = lasting.1;
         tail =
-            tail-held g asked n batch it.answer before new it.keeps
+            tail-held g asked n batch it.asks.answer before new it.asks.keeps
             (it.matched.contents, it.matched.lasting) was-up
-            (it.may.may asked (it.leads start shows))
+            (it.asks.may.may asked (it.leads start shows))
             (short-append (stored asked n) batch
-            ((past-kept opened start it.earlier sound shows).short n).stored it.may.short)
+            ((past-kept opened start it.earlier sound shows).short n).stored it.asks.may.short)
             it.matched.tail;
       }
     where
       lasting : IsLastingOf g (asked.node n) new
       lasting =
-          tail-lasts g asked n batch it.answer before new it.keeps
+          tail-lasts g asked n batch it.asks.answer before new it.asks.keeps
           (it.matched.contents, it.matched.lasting) was-up
 
   -- a store that was asked to hold a batch still matches its node
@@ -84,7 +84,7 @@ module _ {S A : Type 0} (g : Ghosts S A) (opened : GroupView) (start : World) (p
   was-honest : g.is_clean new → g.is_honest before
   was-honest clean =
       honest-up g (asked.node n) before it.matched.lasting was-up
-      (it.keeps.trust.clean clean)
+      (it.asks.keeps.trust.clean clean)
 
 -- ---- all records of a batch or none
 
@@ -104,7 +104,7 @@ module _ {S A : Type 0} (g : Ghosts S A) (opened : GroupView) (start : World) (p
   was = was-honest (ghosts_over g) opened start past n batch before new sound shows it clean
 
   honest : (ghosts_over g).is_honest new
-  honest = it.keeps.trust.alive was clean
+  honest = it.asks.keeps.trust.alive was clean
 
   -- the store held the node's records, and no record was in doubt
   certain-was : (ghosts_over g).certain before ≡ records
@@ -115,7 +115,7 @@ module _ {S A : Type 0} (g : Ghosts S A) (opened : GroupView) (start : World) (p
 
   no-doubt : g.doubt new.store ≡ None
   no-doubt =
-      it.keeps.still.doubt
+      it.asks.keeps.still.doubt
       ∙ (it.matched.contents.up was
       (was-up (ghosts_over g) opened start past n batch before new sound shows it)).1
 
@@ -124,7 +124,7 @@ module _ {S A : Type 0} (g : Ghosts S A) (opened : GroupView) (start : World) (p
   whole held = at (held.rest honest)
     where
       certain-is : given_out (g.certain new.store) new.base new.ahead ≡ records
-      certain-is = it.keeps.certain honest ∙ certain-was
+      certain-is = it.asks.keeps.certain honest ∙ certain-was
 
       base-is : new.base ≡ records
       base-is = held.base was ∙ certain-was
@@ -164,7 +164,7 @@ module _ {S A : Type 0} (g : Ghosts S A) (opened : GroupView) (start : World) (p
   -- A stop leaves all of the batch or none of it. Or the call was out of place, and the store is as
   -- before.
   pub all-or-none : (new ≡ before) ⊎ LeavesAllOrNone g (after start past) n batch new.store
-  all-or-none = at it.answer it.keeps.holds
+  all-or-none = at it.asks.answer it.asks.keeps.holds
     where
       fails : (b : Bool) → MatchBool b (new ≡ before) Held
           → (new ≡ before) ⊎ LeavesAllOrNone g (after start past) n batch new.store

@@ -1,18 +1,16 @@
 -- The stores of a group whose process is killed at any moment: while a store is idle, works in a
 -- turn, or is asked to hold a batch of records ahead.
-use Rattle.std.specs.Prelude.{List, None, Result, Some, slice_get, suc, true, ℕ, ◌++◌, ◌≡◌, ◌⊎◌}
+use Rattle.std.specs.Prelude.{List, None, Some, slice_get, suc, true, ℕ, ◌++◌, ◌≡◌, ◌⊎◌}
 use Rattle.urb_stable.specs.Entries.{Entry}
-use Rattle.urb_stable.specs.KeptTails.{KeepsTail}
 use Rattle.urb_stable.specs.StableStorage.{IsContents}
 use Rattle.urb_stable.specs.StoredTogether.{IsContentsOrAll}
 use Rattle.urb_stable.specs.declared.stable.Stable.{Ghosts}
-use Rattle.urb_stable.specs.declared.stable.StoreFault.{StoreFault}
 use Rattle.urb_group.specs.GroupViews.{GroupView}
 use Rattle.urb_world.specs.Step.{Event}
 use Rattle.urb_world.specs.World.{World, stored}
 use Rattle.urb_show.specs.Pasts.{IsLedTo}
 use Rattle.urb_turn.specs.Jobs.{runs_at}
-use Rattle.urb_turn.specs.KeptTails.{MayHold}
+use Rattle.urb_turn.specs.KeptTails.{AsksToHold}
 use Rattle.urb_turn.specs.NodeStores.{HasRested, IsStoreAfter}
 use Rattle.urb_turn.specs.Views.{FinishedView}
 use Rattle.urb_turn.specs.WholeTurns.{IsTurnAt}
@@ -27,17 +25,15 @@ module _ {S A : Type 0} (g : Ghosts S A) where
       ⊎ g.leaves_only store (IsContentsOrAll batch (stored w n) None)
 
 module _ {S A : Type 0} (g : Ghosts S A) (opened : GroupView) (start : World) where
-  -- A store of node n is asked to hold this batch of records ahead, gives this answer, and is so
-  -- after it. A history led from the opened group to one in which the batch may follow the node's
-  -- records, and the store matched the node then. The node has rested since, until this moment.
+  -- A store of node n is asked to hold this batch of records ahead, and is so after it. A history
+  -- led from the opened group to one in which the batch may follow the node's records, and the store
+  -- matched the node then. The node has rested since, until this moment.
   pub record IsHoldingAt (past : List Event) (n : ℕ) (batch : List Entry) (before after : S)
       : Type 0 where
     pub earlier : List Event
     pub group : GroupView
     pub leads : IsLedTo opened earlier group
-    pub may : MayHold group n batch
-    pub answer : Result (Unit {0}) StoreFault
-    pub keeps : KeepsTail g before batch answer after
+    pub asks : AsksToHold g group n batch before after
     pub matched : IsStoreAfter g start earlier n before
     pub rests : HasRested n earlier past
 

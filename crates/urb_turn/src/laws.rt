@@ -3,7 +3,7 @@
 //! These functions are for proofs alone, since they do nothing.
 
 ghost use Rattle.std.specs.Prelude.{◌≡◌, ◌≢◌, ◌++◌, ◌∷◌, ◌⊎◌, [], List, Some, slice_get, suc, true};
-ghost use Rattle.std.specs.Prelude.{ℕ};
+ghost use Rattle.std.specs.Prelude.{Option, ℕ};
 ghost use Rattle.std.specs.declared.alloc.Global.{Global};
 ghost use Rattle.urb_names.specs.declared.refusal.Refusal.TheVariants.{Stale};
 ghost use Rattle.urb_stable.specs.AheadStores.{AheadView, ghosts_over};
@@ -23,6 +23,8 @@ ghost use Rattle.urb_group.specs.declared.reply.Reply.TheVariants.{Refused, Stor
 ghost use Rattle.urb_turn.specs.Changes.{HasChanged, change_of};
 ghost use Rattle.urb_turn.specs.Jobs.{runs_at};
 ghost use Rattle.urb_turn.specs.Views.{FinishedView};
+ghost use Rattle.urb_names.specs.declared.refusal.NoMemory.{NoMemory};
+ghost use Rattle.urb_turn.specs.KeptTails.{Prepares};
 ghost use Rattle.urb_turn.specs.KilledBatches.{AreKilledAt, IsHoldingAt, LeavesAllOrNone};
 ghost use Rattle.urb_turn.specs.KilledStores.{AreCutAt, IsCutAt};
 ghost use Rattle.urb_turn.specs.NodeStores.{HasRested, HaveTails, IsStoreAfter, LeavesAfter};
@@ -145,20 +147,26 @@ pub fn a_kill_leaves_what_a_stop_may_leave<S: Stable<Alloc = Global>>()
 /// leaves what the call leaves if the storage fails from that moment on. These clauses speak of
 /// every answer of the call, and so of that failure too.
 ///
-/// The store still matches its node. If it holds the batch over an inner store, a stop leaves there
-/// the node's records, followed by all records of the batch or by none. If the call was out of
-/// place, the store is as before.
+/// A worker that prepares its store asks it in this way, or leaves it as it is (`asked`). The store
+/// still matches its node. If it holds the batch over an inner store, a stop leaves there the
+/// node's records, followed by all records of the batch or by none. If the call was out of place,
+/// the store is as before.
 pub fn a_kill_amid_a_batch_leaves_all_or_none<S: Stable<Alloc = Global>>()
+    ensures asked { (opened : GroupView) (start : World) (past : List Event) (n : ℕ)
+        (events : List Event) (refused : Option NoMemory) (before new : S)
+        (prepares : Prepares S.Stable opened n events refused before new)
+        → IsStoreAfter S.Stable start prepares.past n before
+        → HasRested n prepares.past past
+        → (new ≡ before)
+        ⊎ IsHoldingAt S.Stable opened start past n prepares.holds.records before new }
     ensures matches { (opened : GroupView) (start : World) (past : List Event) (n : ℕ)
         (batch : List Entry) (before new : S)
-        → IsSound opened
-        → Shows opened start
+        → IsSound opened → Shows opened start
         → IsHoldingAt S.Stable opened start past n batch before new
         → IsStoreAfter S.Stable start past n new × IsCutAt S.Stable start past n new }
     ensures all_or_none { (opened : GroupView) (start : World) (past : List Event) (n : ℕ)
         (batch : List Entry) (before new : AheadView S)
-        → IsSound opened
-        → Shows opened start
+        → IsSound opened → Shows opened start
         → IsHoldingAt (ghosts_over S.Stable) opened start past n batch before new
         → S.is_clean new.store
         → (new ≡ before)

@@ -1,7 +1,7 @@
 -- The jobs of a feed.
 use Rattle.std.proofs.Common.{Bool, IsSome, List, None, Option, Some, [], arith, false, if◌then◌else◌}
 use Rattle.std.specs.Prelude.{is_some}
-use Rattle.std.proofs.Common.{length, refl, subst, true, ℕ, ◌++◌, ◌<◌, ◌≡◌, ◌∷◌}
+use Rattle.std.proofs.Common.{length, refl, subst, true, ℕ, ◌&&◌, ◌++◌, ◌<◌, ◌≡◌, ◌∷◌}
 use Rattle.urb_feed.specs.Feeds.{FeedView}
 use Rattle.urb_names.specs.CarriedPackets.{Carried}
 use Rattle.urb_names.specs.PacketGrammar.{spelling}
@@ -12,9 +12,11 @@ use Rattle.urb_worker.specs.internal.OwnJobs.{FeedsAfter, IsNextArrival}
 use Rattle.urb_worker.specs.internal.OwnJobs.{IsOwnJob, Learns, LearnsAll, LearnsBatch, MayDoOwn}
 use Rattle.urb_worker.specs.internal.OwnJobs.{OwnJobsView, left_of}
 use Rattle.urb_worker.specs.internal.TicketBatches.{IsBatchOf}
-use Rattle.urb_worker.specs.internal.Pulses.{PulseView, pulse_after}
+use Rattle.urb_worker.specs.internal.Pulses.{PulseView, is_due, pulse_after}
 use Rattle.urb_turn.specs.Views.{FinishedView}
 use Rattle.urb_turn.specs.declared.job.Job.{Job}
+use Rattle.urb_turn.specs.declared.job.Job.TheVariants as job
+use Rattle.urb_worker.specs.ServedStores.{needs_no_ticket}
 use Rattle.urb_turn.specs.internal.Arrivals.{IsArrival}
 
 -- what comes next if packets wait
@@ -46,6 +48,25 @@ pub goes_on : (n : ℕ) (waited : Bool) (pulse : PulseView) (old after : Feeding
     (new : Option FeedingView) (own : Option Job) → IsNextArrival old after own
     → new ≡ left_of after → IsOwnJob n waited pulse (Some old) new own
 goes_on n waited pulse old after new own next left = (after, next, left)
+
+-- a job of a worker's own is an arrival or a tick
+pub own_job : (n : ℕ) (waited : Bool) (pulse : PulseView) (old new : Option FeedingView) (next : Job)
+    → IsOwnJob n waited pulse old new (Some next) → needs_no_ticket next ≡ true
+own_job n waited pulse None new next own = at (waited && is_due pulse) own.1
+  where
+    at : (due : Bool) → Some next ≡ (if due then Some (job.Tick n) else None)
+        → needs_no_ticket next ≡ true
+    at true is = let same : next ≡ job.Tick n = cc in rw same refl
+    at false is = absurd (cc)
+own_job n waited pulse (Some feeding) new next own = arrival next own.1.2
+  where
+    arrival : (it : Job) → IsArrival own.1.0.target (spelling own.1.0) it → needs_no_ticket it ≡ true
+    arrival (job.Arrive q bytes) is = refl
+    arrival (job.Submit q client number payload) is = absurd is
+    arrival (job.Tick q) is = absurd is
+    arrival (job.Crash q) is = absurd is
+    arrival (job.Restart q) is = absurd is
+    arrival (job.Status q) is = absurd is
 
 -- what a worker learns by a job
 pub learns : (mends own : Bool) (n : ℕ) (next : Job) (done : FinishedView) (old new : OwnJobsView)

@@ -2,7 +2,7 @@
 -- them into another.
 use Rattle.std.proofs.Common.{◌≡◌, ◌∙◌, ◌++◌, IfSome, List, [], ◌∷◌, None, Ok, Err, Option, Result}
 use Rattle.std.proofs.Common.{arith, reverse, ℕ, ◌+◌, zero, suc}
-use Rattle.std.proofs.Common.{Some, append_assoc, ap, inl, inr, length, refl, subst, sym, map}
+use Rattle.std.proofs.Common.{Some, append_assoc, ap, inl, inr, length, refl, subst, sym, map, true}
 use Rattle.std.proofs.Math.Logic.{∥∥₁_elim}
 use Rattle.std.proofs.Props.{props}
 use Rattle.std.proofs.lemmas.List.{reverse-append, map_push}
@@ -11,14 +11,18 @@ use Rattle.urb_stable.specs.declared.stable.Stable.{Ghosts}
 use Rattle.urb_group.specs.GroupViews.{GroupView, Shows}
 use Rattle.urb_world.specs.World.{World}
 use Rattle.urb_world.specs.Step.{Event}
-use Rattle.urb_worker.specs.Acts.{Act, LetsOut}
+use Rattle.urb_worker.specs.Acts.{Act, Ended, LetsOut}
 use Rattle.urb_turn.specs.Counting.{TallyView}
 use Rattle.urb_turn.specs.Loans.{events_until}
 use Rattle.urb_turn.specs.Jobs.{runs_at}
 use Rattle.urb_turn.specs.KeptTails.{Prepares}
 use Rattle.urb_turn.specs.NodeStores.{IsStoreAfter, IsStoreSince}
-use Rattle.urb_worker.specs.ServedStores.{AreServed, Continues, HasServed, IsLeftOf, Prepared, Rests}
-use Rattle.urb_worker.specs.ServedStores.{Serves, Works, numbers_from}
+use Rattle.urb_names.specs.declared.refusal.NoMemory.{NoMemory}
+use Rattle.urb_worker.specs.ServedStores.{AreServed, DoesBatch, DoesMany, DoesOne, DoesOwn, HasServed}
+use Rattle.urb_worker.specs.ServedStores.{IsLeftOf, Rests, Serves, Works, WorksAll}
+use Rattle.urb_worker.specs.ServedStores.{needs_no_ticket, notes_of, numbers_from}
+use Rattle.urb_worker.specs.TicketBatches.{IsEndOf, calls_ahead}
+use Rattle.urb_worker.specs.declared.ticket_batch.BatchEnd.{BatchEnd}
 use Rattle.urb_turn.specs.Views.{FinishedView}
 use Rattle.urb_turn.specs.WholeTurns.{Does}
 use Rattle.urb_turn.specs.declared.job.Job.{Job}
@@ -32,10 +36,10 @@ module _ {S A : Type 0} (g : Ghosts S A) (opened : GroupView) (n : ℕ) where
   works job before after old new done does lets_out =
       record { done = done; does = does; lets_out = lets_out }
 
-  -- some job was done
-  pub works_some : (job : Job) (before after : S) (old new : List Act)
+  -- a job of its own was done
+  pub works_some : (job : Job) (before after : S) (old new : List Act) → needs_no_ticket job ≡ true
       → Works g opened n job before after old new → MayWork g opened n before after old new
-  works_some job before after old new works = inr (job, works)
+  works_some job before after old new own works = inr (job, own, works)
 
   -- no job was done
   pub works_none : (store : S) (acts : List Act) → MayWork g opened n store store acts acts
@@ -49,40 +53,73 @@ module _ {S A : Type 0} (g : Ghosts S A) (opened : GroupView) (n : ℕ) where
       → MayWork g opened n before after old new → Serves g opened n first after start new
   more first before after start old new so_far (inl same) =
       rw (same.0, same.1) so_far
-  more first before after start old new so_far (inr (job, works)) =
-      Continues first before after start old new job so_far works
+  more first before after start old new so_far (inr (job, own, works)) =
+      DoesOwn first before after start old new job so_far own works
 
   -- a round without a ticket
   pub one_job : (a b : S) (old new : List Act) → MayWork g opened n a b old new
       → HasServed g opened n a b old new
   one_job a b old new works = ∣ more a a b old old new (Rests a old) works ∣₁
 
+  -- a ticket alone
+  pub one_ticket : (job : Job) (end : BatchEnd) (a b : S) (old noted new : List Act)
+      → IsEndOf 1 end → noted ≡ old ++ Ended end ∷ [] → Works g opened n job a b noted new
+      → HasServed g opened n a b old new
+  one_ticket job end a b old noted new ends is works =
+      ∣ DoesOne a a b old old new job end (Rests a old) ends
+      (subst (λ (acts : List Act). Works g opened n job a b acts new) is works) ∣₁
+
+  -- the tickets of a batch
+  pub many_tickets : (jobs : List Job) (end : BatchEnd) (a b : S) (old noted new : List Act)
+      → IsEndOf (length jobs) end → noted ≡ old ++ Ended end ∷ []
+      → DoesBatch g opened n jobs a b noted new → HasServed g opened n a b old new
+  many_tickets jobs end a b old noted new ends is does =
+      ∣ DoesMany a a b old old new jobs end (Rests a old) ends
+      (subst (λ (acts : List Act). DoesBatch g opened n jobs a b acts new) is does) ∣₁
+
+  -- one more job of a batch
+  pub works_more : (jobs : List Job) (job : Job) (a b c : S) (old between new : List Act)
+      → WorksAll g opened n jobs a b old between → Works g opened n job b c between new
+      → WorksAll g opened n (jobs ++ job ∷ []) a c old new
+  works_more [] job a b c old between new so_far works =
+      rw (sym so_far.0, sym so_far.1) (c, new, works, (refl, refl))
+  works_more (first ∷ jobs) job a b c old between new so_far works = (
+    so_far.0,
+    so_far.1,
+    so_far.2,
+    works_more jobs job so_far.0 b c so_far.1 between new so_far.3 works,
+  )
+
+  -- a batch, once its store was asked to hold records ahead
+  pub does_batch : (jobs : List Job) (refused : Option NoMemory) (a ready b : S)
+      (old noted new : List Act) → Prepares g opened n (calls_ahead n jobs) refused a ready
+      → noted ≡ old ++ notes_of refused → WorksAll g opened n jobs ready b noted new
+      → DoesBatch g opened n jobs a b old new
+  does_batch jobs refused a ready b old noted new prepares is works = record {
+    refused = refused;
+    ready = ready;
+    prepares = prepares;
+    works = subst (λ (acts : List Act). WorksAll g opened n jobs ready b acts new) is works;
+  }
+
   serves_on : (a b c : S) (start old new : List Act) → Serves g opened n a b start old
       → Serves g opened n b c old new → Serves g opened n a c start new
   serves_on a b c start old new before (Rests store acts) = before
-  serves_on a b c start old new before (Continues first last next from was is job so_far works) =
-      Continues a last next start was is job (serves_on a b last start old was before so_far) works
-  serves_on a b c start old new before (Prepared first last next from acts so_far prepares) =
-      Prepared a last next start acts (serves_on a b last start old acts before so_far) prepares
+  serves_on a b c start old new before (DoesOwn first last next from was is job so_far own works) =
+      DoesOwn a last next start was is job (serves_on a b last start old was before so_far) own
+      works
+  serves_on a b c start old new before (DoesOne first last next from was is job end so_far ends works) =
+      DoesOne a last next start was is job end (serves_on a b last start old was before so_far)
+      ends works
+  serves_on a b c start old new before (DoesMany first last next from was is jobs end so_far ends does) =
+      DoesMany a last next start was is jobs end (serves_on a b last start old was before so_far)
+      ends does
 
-  -- a worker that had its store hold records ahead
-  pub prepared : (before after : S) (acts : List Act) → Prepares g opened n before after
-      → HasServed g opened n before after acts acts
-  prepared before after acts prepares =
-      ∣ Prepared before before after acts acts (Rests before acts) prepares ∣₁
-
-  -- and then maybe one more job
+  -- and then maybe a job of its own
   pub then_own : (a b c : S) (start old new : List Act) → HasServed g opened n a b start old
       → MayWork g opened n b c old new → HasServed g opened n a c start new
   then_own a b c start old new before works =
       ∥∥₁_elim before (hlevel props) (λ s. ∣ more a b c start old new s works ∣₁)
-
-  -- one more job
-  pub one_more_job : (job : Job) (a b c : S) (start old new : List Act)
-      → HasServed g opened n a b start old → Works g opened n job b c old new
-      → HasServed g opened n a c start new
-  one_more_job job a b c start old new before works =
-      ∥∥₁_elim before (hlevel props) (λ s. ∣ Continues a b c start old new job s works ∣₁)
 
   -- one more round
   pub served_on : (a b c : S) (start old new : List Act) → HasServed g opened n a b start old

@@ -1,4 +1,4 @@
--- What a worker lets out of its node: packets, and reports of changes.
+-- What a worker lets out of its node: packets, and reports of changes. And why its batches ended.
 use Rattle.std.specs.Prelude.{List, None, Option, Some, [], ℕ, ◌++◌, ◌∷◌, ◌≡◌, ◌⊎◌}
 use Rattle.urb_names.specs.CarriedPackets.{Carried}
 use Rattle.urb_names.specs.PacketGrammar.{spelling}
@@ -7,13 +7,18 @@ use Rattle.urb_node.specs.Replies.{packets_in}
 use Rattle.urb_turn.specs.Changes.{change_of}
 use Rattle.urb_turn.specs.Views.{FinishedView}
 use Rattle.urb_turn.specs.declared.change.Change.{Change}
+use Rattle.urb_worker.specs.declared.ticket_batch.BatchEnd.{BatchEnd}
 
 -- An act. The link got these bytes for this node. Or a packet for this node was lost, because
--- memory for its bytes was refused. Or a change of a node was reported.
+-- memory for its bytes was refused. Or a change of a node was reported. Two more acts let nothing
+-- out. The worker noted why it takes no more tickets at once. Or it noted that memory was refused
+-- while it foresaw what tickets will draft.
 pub data Act : Type 0 where
   Sent : ℕ → List ℕ → Act
   Lost : ℕ → Act
   Reported : Change → Act
+  Ended : BatchEnd → Act
+  RanShort : Act
 
 -- the report of a change, if there was one
 abbrev pub reports_of : Option Change → List Act

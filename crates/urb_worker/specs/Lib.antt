@@ -1,3 +1,4 @@
 pub mod Acts
 pub mod ServedStores
+pub mod TicketBatches
 pub mod internal

@@ -5,3 +5,4 @@ pub mod Pulses
 pub mod OwnJobs
 pub mod Listenings
 pub mod TicketBatches
+pub mod WorkerExamples

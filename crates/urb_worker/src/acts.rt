@@ -2,6 +2,7 @@
 
 ghost use Rattle.std.specs.Prelude.{◌≡◌, [], ◌∷◌, ◌++◌};
 
+use crate::ticket_batch::BatchEnd;
 use logbook::{Opening, Rule, Seen, Start};
 use std::marker::Model;
 use urb_link::Handed;
@@ -82,6 +83,28 @@ impl<'a> NextAct for Reporting<'a> {
     ghost use Rattle.urb_worker.specs.Acts.{Reported};
 
     ghost act = { λ a. Reported a.change.now };
+}
+
+/// The end of a batch, for this reason.
+#[derive(Drop)]
+pub(crate) struct Ending<'a> {
+    pub(crate) end: &'a BatchEnd,
+}
+
+impl<'a> NextAct for Ending<'a> {
+    ghost use Rattle.urb_worker.specs.Acts.{Ended};
+
+    ghost act = { λ a. Ended a.end.now };
+}
+
+/// A lack of memory for what the tickets of a batch will draft.
+#[derive(Drop)]
+pub(crate) struct Shortage;
+
+impl NextAct for Shortage {
+    ghost use Rattle.urb_worker.specs.Acts.{RanShort};
+
+    ghost act = { λ a. RanShort };
 }
 
 // A list, and the act that comes next.

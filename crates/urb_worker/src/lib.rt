@@ -38,6 +38,7 @@ mod feeding;
 mod group_room;
 mod job_results;
 mod listeners;
+mod looks;
 mod node_listeners;
 mod outlets;
 mod own_jobs;

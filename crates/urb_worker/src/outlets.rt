@@ -1,14 +1,19 @@
 //! What a worker lets out of its node: packets over a link, and reports of changes.
 //!
+//! The outlets also list why each batch of the worker ended, for contracts alone. Nothing of that
+//! goes out.
+//!
 //! The link and the reporter belong to all workers of a group. A worker sends and reports changes
 //! only through outlets of its own, and contracts see the list of all that went through them. No
 //! other place of this crate may call a link's `send` or a reporter's `report`: a check of the gate
 //! holds that.
 
 ghost use Rattle.std.specs.Prelude.{◌≡◌, ◌++◌, ◌∷◌, []};
-ghost use Rattle.urb_worker.specs.Acts.{Lost, Reported, Sent};
+ghost use Rattle.urb_worker.specs.Acts.{Ended, Lost, Reported, Sent};
+ghost use Rattle.urb_worker.specs.ServedStores.{notes_of};
 
-use crate::acts::{ActList, Losing, Reporting, Sending};
+use crate::acts::{ActList, Ending, Losing, Reporting, Sending, Shortage};
+use crate::ticket_batch::BatchEnd;
 use std::marker::Model;
 use urb_link::Link;
 use urb_names::{NoMemory, NodeId};
@@ -64,5 +69,21 @@ impl<'a, N: Link, H: Reporter> WorkerOutlets<'a, N, H> {
     {
         self.reporter.report(*change);
         self.acts = self.acts.with(&Reporting { change });
+    }
+
+    /// Notes why the worker takes no more tickets at once.
+    pub(crate) fn end_batch(&mut self, end: BatchEnd)
+        ensures { self.new ≡ self.old ++ Ended end ∷ [] }
+    {
+        self.acts = self.acts.with(&Ending { end: &end });
+    }
+
+    /// Notes that less is foreseen of a batch, if memory was refused for that.
+    pub(crate) fn run_short(&mut self, left_out: Option<NoMemory>)
+        ensures { self.new ≡ self.old ++ notes_of left_out }
+    {
+        if let Some(_refused) = left_out {
+            self.acts = self.acts.with(&Shortage);
+        }
     }
 }

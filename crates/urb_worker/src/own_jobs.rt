@@ -17,6 +17,13 @@ use urb_names::{NoMemory, NodeId};
 use urb_show::HouseName;
 use urb_turn::{Change, Finished, Gate, HubName, Job, Reporter, change_of};
 
+/// The witness that a worker feeds its node. Only `OwnJobs::feeds` makes one, since its field is
+/// private. So a worker takes a ticket alone for this reason only while it feeds.
+#[derive(Drop)]
+pub(crate) struct Feeds {
+    seen: (),
+}
+
 /// A worker's jobs of its own: what is left of its node's feed, and the tick that is due.
 #[derive(Drop)]
 pub(crate) struct OwnJobs {
@@ -92,11 +99,15 @@ impl OwnJobs {
         }
     }
 
-    /// Whether the worker feeds its node.
-    pub(crate) fn is_feeding(&self) -> bool
-        ensures { result ≡ is_some self.now.feeding }
+    /// The witness that the worker feeds its node, if it does.
+    pub(crate) fn feeds(&self) -> Option<Feeds>
+        ensures { is_some result ≡ is_some self.now.feeding }
     {
-        self.feeding.is_some()
+        if self.feeding.is_some() {
+            Some(Feeds { seen: () })
+        } else {
+            None
+        }
     }
 
     /// How long the worker waits for a ticket. While there is something to feed, it doesn't wait.

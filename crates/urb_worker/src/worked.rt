@@ -1,5 +1,7 @@
-//! Worked examples of the definitions: listeners and the stores that workers serve, and what none of
-//! them can be.
+//! Worked examples of the definitions: listeners, batches of tickets, and the stores that workers
+//! serve, and what none of them can be.
 
 pub mod listenings;
+pub mod own_jobs;
 pub mod served_stores;
+pub mod ticket_batches;

@@ -6,14 +6,14 @@ ghost use Rattle.urb_world.specs.World.{World};
 ghost use Rattle.urb_worker.specs.internal.OwnJobs.{DoesBoth, Learns, LearnsAll, LearnsBatch};
 ghost use Rattle.urb_worker.specs.internal.OwnJobs.{MayDoOwn};
 ghost use Rattle.urb_turn.specs.NodeStores.{IsStoreSince};
-ghost use Rattle.urb_worker.specs.ServedStores.{HasServed, Works};
+ghost use Rattle.urb_worker.specs.ServedStores.{DoesBatch, HasServed, Works};
 ghost use Rattle.urb_worker.specs.internal.ServedStores.{MayWork, each};
 
 use crate::WorkerSetting;
 use crate::job_results::{give_answer, is_record_stored, report_change, send_reply};
 use crate::outlets::WorkerOutlets;
 use crate::own_jobs::OwnJobs;
-use crate::ticket_batch::{BatchHopes, keep_ahead, take_waiting};
+use crate::ticket_batch::{BatchEnd, BatchHopes, keep_ahead, take_waiting};
 use crate::tickets::{Closed, next_ticket};
 use crossbeam_channel::Receiver;
 use std::alloc::Global;
@@ -113,7 +113,7 @@ fn do_ticket<
 
 // Does the worker's next job of its own, if there is one. `has_waited` says whether the worker has
 // waited for a ticket and none came. If memory was refused for the job, that is returned.
-#[tactic(auto, using(crate::proofs::NodeFeeds::does_own, crate::proofs::NodeFeeds::does_none, crate::proofs::ServedStores::works_some, crate::proofs::ServedStores::works_none))]
+#[tactic(auto, using(crate::proofs::NodeFeeds::does_own, crate::proofs::NodeFeeds::does_none, crate::proofs::NodeFeeds::own_job, crate::proofs::ServedStores::works_some, crate::proofs::ServedStores::works_none))]
 fn do_own_job<
     K: HouseName,
     L: HubName,
@@ -149,9 +149,9 @@ fn do_own_job<
     }
 }
 
-// Does the tickets of a batch, one after the other. Before that, the store holds ahead what they
-// will draft.
-#[tactic(auto, using(crate::proofs::ServedStores::prepared, crate::proofs::ServedStores::one_more_job, crate::proofs::NodeFeeds::learns_more))]
+// Does the tickets of a batch, one after the other. Before that, the store is asked to hold ahead
+// just what they will draft, as far as it is foreseen.
+#[tactic(auto, using(crate::proofs::ServedStores::does_batch, crate::proofs::ServedStores::works_more, crate::proofs::NodeFeeds::learns_more))]
 fn do_batch<
     K: HouseName,
     L: HubName,
@@ -169,15 +169,16 @@ fn do_batch<
     tickets: Vec<Ticket<K>>,
     tally: Tally<K, L>,
 ) -> Tally<K, L>
-    ensures served { HasServed S.Stable K.origin node store.old store.new
-        outlets.old outlets.new }
+    ensures batch { DoesBatch S.Stable K.origin node (each tickets.items (λ ticket. ticket.job))
+        store.old store.new outlets.old outlets.new }
     ensures keeps { (start : World) → Shows K.origin start
         → IsStoreSince S.Stable start tally.last node store.old
         → IsStoreSince S.Stable start result.last node store.new }
     ensures own { LearnsAll setting.now.mends node (each tickets.items (λ ticket. ticket.job))
         state.old.own state.new.own }
 {
-    let mut tally = keep_ahead(setting, node, store, &tickets, tally);
+    let (mut tally, left_out) = keep_ahead(setting, node, store, &tickets, tally);
+    outlets.run_short(left_out);
     for ticket in tickets {
         tally = do_ticket(setting, node, store, outlets, state, false, ticket, tally);
     }
@@ -185,7 +186,7 @@ fn do_batch<
 }
 
 // Does a ticket, and those that wait behind it. While the node is fed, it does one ticket alone.
-#[tactic(auto, using(crate::proofs::ServedStores::one_job, crate::proofs::ServedStores::works_some, crate::proofs::NodeFeeds::learns_alone, crate::proofs::NodeFeeds::learns_batch))]
+#[tactic(auto, using(crate::proofs::ServedStores::one_ticket, crate::proofs::ServedStores::many_tickets, crate::proofs::NodeFeeds::learns_alone, crate::proofs::NodeFeeds::learns_batch))]
 fn do_tickets<
     K: HouseName,
     L: HubName,
@@ -211,14 +212,17 @@ fn do_tickets<
         → IsStoreSince S.Stable start result.last node store.new }
     ensures own { LearnsBatch setting.now.mends node first.job state.old.own state.new.own }
 {
-    if state.own.is_feeding() {
+    if let Some(feeds) = state.own.feeds() {
+        outlets.end_batch(BatchEnd::Feeds(feeds));
         return do_ticket(setting, node, store, outlets, state, false, first, tally);
     }
     let hopes = BatchHopes {
         tickets: state.batch,
         polls: setting.polling.batch_polls(),
     };
-    match take_waiting(setting.rt, setting.alloc, jobs, first, hopes) {
+    let (taken, end) = take_waiting(setting.rt, setting.alloc, jobs, first, hopes);
+    outlets.end_batch(end);
+    match taken {
         Ok(tickets) => {
             state.batch = tickets.len();
             do_batch(setting, node, store, outlets, state, tickets, tally)

@@ -16,7 +16,9 @@ use urb_names::{ClientId, Config, NodeId, Payload};
 use urb_show::{House, HouseName, LogReader, Opened, ReadPosition};
 use urb_turn::{Hub, HubName, Job, Tally};
 
+mod batches;
 mod bursts;
+mod cut_feeds;
 mod desks;
 mod drafts;
 mod earlier;

@@ -67,8 +67,9 @@ pub fn tails_of_new_nodes()
         (record (ahead_of [] (pending 1 2 ∷ [])) { is_clean = λ s. ⊥ }) four 1 empty_memory }
     ensures no_gap_at_a_clean_store { WouldHaveTail (ahead_of [] (pending 1 2 ∷ [])) four 1
         empty_memory → ⊥ }
-    ensures a_long_payload { HasTail (ahead_of [] (Pend (name 1 1) (filled 7 1 (suc MAX_PAYLOAD)) ∷ [])) four 1
-        empty_memory → ⊥ }
+    ensures a_long_payload { HasTail
+        (ahead_of [] (Pend (name 1 1) (filled 7 1 (suc MAX_PAYLOAD)) ∷ [])) four 1 empty_memory
+        → ⊥ }
 {}
 
 /// Each store of a group may hold records ahead that may follow those of its own node.

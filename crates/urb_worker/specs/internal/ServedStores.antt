@@ -1,5 +1,5 @@
 -- Words about lists, for the order of the stores; and a job that a worker may do.
-use Rattle.std.specs.Prelude.{Err, List, Ok, Result, [], length, map, ℕ, ◌∷◌, ◌≡◌, ◌⊎◌}
+use Rattle.std.specs.Prelude.{Err, List, Ok, Result, [], length, map, true, ℕ, ◌∷◌, ◌≡◌, ◌⊎◌}
 use Rattle.urb_stable.specs.declared.stable.Stable.{Ghosts}
 use Rattle.urb_group.specs.GroupViews.{GroupView, IsSound, Shows}
 use Rattle.urb_world.specs.Step.{Event}
@@ -9,7 +9,7 @@ use Rattle.urb_show.specs.Pasts.{IsLedTo}
 use Rattle.urb_turn.specs.Counting.{TallyView}
 use Rattle.urb_turn.specs.LastLoans.{AllRestSince}
 use Rattle.urb_turn.specs.NodeStores.{IsStoreAfter, IsStoreSince}
-use Rattle.urb_worker.specs.ServedStores.{Works}
+use Rattle.urb_worker.specs.ServedStores.{Works, needs_no_ticket}
 use Rattle.urb_turn.specs.declared.job.Job.{Job}
 
 -- the value of f for each element of a list
@@ -53,8 +53,9 @@ pub record ClosesAt (opened : GroupView) (n : ℕ) (tallies : List TallyView) : 
   pub leads : IsLedTo opened history group
   pub rest : AllRestSince 1 tallies history
 
--- the worker of node n does some job, or does nothing
+-- the worker of node n does a job of its own, or does nothing
 abbrev pub MayWork : {S A : Type 0} → Ghosts S A → GroupView → ℕ → S → S → List Act → List Act
     → Type 0
 MayWork g opened n before after old new =
-    ((after ≡ before) × (new ≡ old)) ⊎ ((job : Job) × Works g opened n job before after old new)
+    ((after ≡ before) × (new ≡ old))
+    ⊎ ((job : Job) × (needs_no_ticket job ≡ true) × Works g opened n job before after old new)

@@ -140,9 +140,7 @@ first-held past rests = record {
   earlier = [];
   group = new_four;
   leads = λ w shows. shows;
-  may = may-hold-first;
-  answer = Ok tt;
-  keeps = keeps-first;
+  asks = record { may = may-hold-first; answer = Ok tt; keeps = keeps-first };
   matched = matched-ahead;
   rests = rests;
 }
@@ -158,11 +156,11 @@ returns-clause-while_another_node_ticks c =
 
 pub returns-clause-not_a_gap : goal.returns-clause-not_a_gap
 returns-clause-not_a_gap c h =
-    not-second h.earlier h.rests.between h.group h.rests.later_is h.leads h.may
+    not-second h.earlier h.rests.between h.group h.rests.later_is h.leads h.asks.may
 
 pub returns-clause-not_one_that_failed_before : goal.returns-clause-not_one_that_failed_before
 returns-clause-not_one_that_failed_before c h =
-    let grows : 1 ≤ 0 = h.keeps.counts.grows in absurd (omega (arith, grows))
+    let grows : 1 ≤ 0 = h.asks.keeps.counts.grows in absurd (omega (arith, grows))
 
 pub returns-clause-not_one_with_a_pair : goal.returns-clause-not_one_with_a_pair
 returns-clause-not_one_with_a_pair c h =

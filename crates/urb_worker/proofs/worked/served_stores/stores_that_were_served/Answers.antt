@@ -1,15 +1,20 @@
 -- No job lets a store forget how often it has failed.
-use Rattle.std.proofs.Common.{Bool, List, [], arith, false, inl, inr, subst, sym, true, ℕ, ◌≡◌, ◌≤◌}
+use Rattle.std.proofs.Common.{Bool, List, Option, [], arith, false, subst, sym, true, ℕ, ⊎_elim, ◌++◌}
+use Rattle.std.proofs.Common.{◌∷◌, ◌≡◌, ◌≤◌}
 use Rattle.std.proofs.Math.Logic.{∥∥₁_elim}
 use Rattle.std.proofs.Props.{props}
 use Rattle.urb_group.specs.GroupViews.{GroupView}
 use Rattle.urb_show.specs.internal.ReaderExamples.{shows_none}
 use Rattle.urb_stable.specs.MemoryStores.{Memory, empty_memory}
-use Rattle.urb_worker.specs.Acts.{Act}
+use Rattle.urb_names.specs.declared.refusal.NoMemory.{NoMemory}
+use Rattle.urb_world.specs.Step.{Event}
+use Rattle.urb_worker.specs.Acts.{Act, Ended}
 use Rattle.urb_turn.specs.Jobs.{runs_at}
 use Rattle.urb_turn.specs.KeptTails.{Prepares}
-use Rattle.urb_worker.specs.ServedStores.{IsLeftOf, Serves}
-use Rattle.urb_worker.specs.ServedStores.Serves.{Continues, Prepared, Rests}
+use Rattle.urb_turn.proofs.HeldTails.{prepares-either}
+use Rattle.urb_worker.specs.ServedStores.{IsLeftOf, Serves, WorksAll, notes_of}
+use Rattle.urb_worker.specs.ServedStores.Serves.{DoesMany, DoesOne, DoesOwn, Rests}
+use Rattle.urb_worker.specs.TicketBatches.{calls_ahead}
 use Rattle.urb_turn.specs.Turns.{Stores}
 use Rattle.urb_turn.specs.Views.{FinishedView}
 use Rattle.urb_turn.specs.WholeTurns.{Does}
@@ -44,24 +49,43 @@ job-grows opened n true job before after done h =
     part-grows before after h.turn.at h.turn.new h.turn.stores
 job-grows opened n false job before after done h = same before after h.0
 
--- so does what a worker has its store do between two jobs
-prepare-grows : (opened : GroupView) (n : ℕ) (before after : Memory)
-    → Prepares memory opened n before after → before.failures ≤ after.failures
-prepare-grows opened n before after (inl is) = same before after is
-prepare-grows opened n before after (inr asks) = asks.keeps.counts.grows
+-- so does what a worker has its store do before the jobs of a batch
+prepare-grows : (opened : GroupView) (n : ℕ) (events : List Event) (refused : Option NoMemory)
+    (before after : Memory) → Prepares memory opened n events refused before after
+    → before.failures ≤ after.failures
+prepare-grows opened n events refused before after h =
+    ⊎_elim (same before after) (λ asks. asks.keeps.counts.grows)
+    (prepares-either memory opened n events refused before after h)
 
--- and so do any number of jobs
+-- so do jobs one after the other
+all-grow : (opened : GroupView) (n : ℕ) (jobs : List Job) (before after : Memory)
+    (old new : List Act) → WorksAll memory opened n jobs before after old new
+    → before.failures ≤ after.failures
+all-grow opened n [] before after old new h = same before after h.0
+all-grow opened n (job ∷ jobs) before after old new h =
+    let here = job-grows opened n (runs_at n job) job before h.0 h.2.done h.2.does in
+    let next = all-grow opened n jobs h.0 after h.1 new h.3 in
+    omega (arith, here, next)
+
+-- and so do all jobs of a worker
 grows : (opened : GroupView) (n : ℕ) (first last : Memory) (start acts : List Act)
     → Serves memory opened n first last start acts → first.failures ≤ last.failures
 grows opened n first last start acts (Rests _ _) = omega arith
-grows opened n first last start acts (Continues _ before _ _ old _ job serves works) =
+grows opened n first last start acts (DoesOwn _ before _ _ old _ job serves own works) =
     let here = grows opened n first before start old serves in
     let next = job-grows opened n (runs_at n job) job before last works.done works.does in
     omega (arith, here, next)
-grows opened n first last start acts (Prepared _ before _ _ _ serves prepares) =
-    let here = grows opened n first before start acts serves in
-    let next = prepare-grows opened n before last prepares in
+grows opened n first last start acts (DoesOne _ before _ _ old _ job end serves ends works) =
+    let here = grows opened n first before start old serves in
+    let next = job-grows opened n (runs_at n job) job before last works.done works.does in
     omega (arith, here, next)
+grows opened n first last start acts (DoesMany _ before _ _ old _ jobs end serves ends does) =
+    let here = grows opened n first before start old serves in
+    let held = prepare-grows opened n (calls_ahead n jobs) does.refused before does.ready
+    does.prepares in
+    let next = all-grow opened n jobs does.ready last
+    (old ++ Ended end ∷ [] ++ notes_of does.refused) acts does.works in
+    omega (arith, here, held, next)
 
 -- a failure is not forgotten
 kept : (n : ℕ) → IsLeftOf memory shows_none n failed_once empty_memory → ⊥
