@@ -4,9 +4,11 @@
 
 The floor (floor.c) stores and sends what a group does for a message, and nothing else. Here it
 takes up to 1, 4, 16 and 64 records together. Beside it stand urbd itself, which keeps up to 16
-records a sync, and redis, which syncs what came together once. Each figure is the messages that
-clients submit a second, the median of N rounds (3) of S seconds (2). Without redis its column is
-empty. The files are made below D.
+records a sync, redis, which syncs what came together once, and three members of etcd, whose clients
+put one value after the other. Each figure is the messages that clients submit a second, the median
+of N rounds (3) of S seconds (2). Then it prints how soon a message is shown at three nodes while
+twelve clients submit, and how long a put of twelve takes. What isn't installed has no figures. The
+files are made below D.
 """
 from __future__ import annotations
 
@@ -18,13 +20,16 @@ from collections import defaultdict
 from collections.abc import Sequence
 from dataclasses import dataclass
 from pathlib import Path
+from typing import Optional
 
-from bench.beside import load_of_machine, running_redis
+from bench.beside import load_of_machine, running_etcd, running_redis
+from bench.daemon import built_etcd_load
 from bench.groups import at_least, duration, new_folder, new_group, program_at, run
-from bench.load import Floor, Load, answers
+from bench.load import Answer, Floor, Load, answers, begin
 from trials.lib.program import Program, all_ports
 
 TICK = 1_000  # milliseconds
+SHOWN = 60_000  # the number of the client whose messages are shown
 TOGETHER = (1, 4, 16, 64)  # records a sync
 
 
@@ -57,6 +62,10 @@ CROWDS = (
 )
 
 
+# Who submits while it is measured how soon a message is shown.
+UNDER = Crowd(3, 12)
+
+
 @dataclass(frozen=True)
 class Tools:
     """What a measurement takes: the programs, a folder for files, and the seconds of a run."""
@@ -64,6 +73,7 @@ class Tools:
     program: Program
     load: Load
     floor: Floor
+    etcd_load: Optional[Path]  # None if etcd or Go isn't installed
     room: Path
     seconds: float
 
@@ -90,6 +100,40 @@ class Tools:
             )
             return begun.answer().rate
 
+    def of_etcd(self, crowd: Crowd) -> Optional[Answer]:
+        """What clients of etcd put, one value after the other. None if it can't be measured."""
+        if self.etcd_load is None or crowd.nodes < 3 or crowd.under_way > 1:
+            return None
+        with new_folder(self.room) as folder, running_etcd(folder) as ports:
+            members = ",".join(f"http://127.0.0.1:{port}" for port in ports)
+            return begin([self.etcd_load, crowd.clients, self.seconds, members]).answer()
+
+    def shown(self, crowd: Crowd) -> Answer:
+        """How soon each node shows a message, while this crowd submits others."""
+        with new_group(self.program, self.room, crowd.nodes, TICK) as daemon:
+            ports = all_ports(daemon.options)
+            runs = [
+                self.load.begin("submit", port, share, self.seconds)
+                for port, share in zip(ports, crowd.shares())
+                if share
+            ]
+            shown = self.load.run("visible", ports[0], len(ports), self.seconds, client=SHOWN)
+            answers(runs)
+            return shown
+
+
+def print_times(tools: Tools, rounds: int) -> None:
+    """How soon a message is shown under a crowd, beside a put of as many clients of etcd."""
+    shown = [tools.shown(UNDER) for _ in range(rounds)]
+    puts = [it for it in (tools.of_etcd(UNDER) for _ in range(rounds)) if it]
+    print(f"microseconds, under {UNDER}: median, 99th percentile")
+    for name, times in (("shown at all nodes", shown), ("a put of etcd", puts)):
+        if times:
+            median, late = (
+                statistics.median(it) for it in zip(*((t.median, t.late) for t in times))
+            )
+            print(f"{name:32}{median:9.0f}{late:9.0f}")
+
 
 def measure(tools: Tools, rounds: int) -> None:
     """All take turns, and the table is printed."""
@@ -101,7 +145,9 @@ def measure(tools: Tools, rounds: int) -> None:
                 figures[crowd, str(together)].append(tools.of_floor(crowd, together))
             if shutil.which("redis-server"):
                 figures[crowd, "redis"].append(tools.of_redis(crowd))
-    columns = ("urbd", *map(str, TOGETHER), "redis")
+            if put := tools.of_etcd(crowd):
+                figures[crowd, "etcd"].append(put.rate)
+    columns = ("urbd", *map(str, TOGETHER), "redis", "etcd")
     print(f"{'submits a second':32}" + "".join(f"{name:>9}" for name in columns))
     for crowd in CROWDS:
         cells = (figures.get((crowd, name)) for name in columns)
@@ -122,8 +168,11 @@ def main(words: Sequence[str]) -> int:
     given = parser.parse_args(words)
     with tempfile.TemporaryDirectory(prefix="urbd-ceiling-", dir=given.dir) as text:
         room = Path(text)
-        tools = Tools(given.program, Load.built(room), Floor.built(room), room, given.seconds)
+        etcd_load = built_etcd_load(room)
+        load, floor = Load.built(room), Floor.built(room)
+        tools = Tools(given.program, load, floor, etcd_load, room, given.seconds)
         measure(tools, given.rounds)
+        print_times(tools, given.rounds)
     print(f"load: {load_of_machine()}")
     return 0
 

@@ -342,11 +342,14 @@ fn foresee_together(alloc: Global, comings: &[Coming]) -> Option<(usize, bool)> 
     let node = NodeId::new(3)?;
     let mut all = Vec::new(alloc);
     for coming in comings {
-        all.push(make_waiting(alloc, node, *coming)?).ok()?;
+        let waiting = make_waiting(alloc, node, *coming)?;
+        all.reserve(1).ok()?;
+        all.push_reserved(waiting);
     }
     let mut calls = Vec::new(alloc);
     for waiting in &all {
-        calls.push(waiting.call()).ok()?;
+        calls.reserve(1).ok()?;
+        calls.push_reserved(waiting.call());
     }
     let (foresight, refused) = foresee_calls(&group, alloc, node, &calls);
     Some((foresight.records().len(), refused.is_some()))

@@ -7,4 +7,4 @@ pub returns-clause-answered : goal.returns-clause-answered
 returns-clause-answered g c =
     answers_by_work g.K.HouseName.origin c.args.self.now c.respond_or_refuse.new.self
     (asked_by c.args.request.now) said_by c.respond_or_refuse.result c.requires
-    c.respond_or_refuse.ensures.works
+    (rw c.ask-came.ensures at c.respond_or_refuse.ensures.works)
