@@ -7,8 +7,8 @@ The quick steps come first: documents, the layout of Python code, unit tests. If
 the run ends there, since the proofs may take two hours. Then a part of the wrong bodies is added to
 the must-fail edits; the hash of crates/ chooses it. Then `rt ci` runs: every proof whose text this
 machine hasn't proved before, the edits, the tests and the program. Then a part of the wrong
-definitions is tried again, with the libraries that it built. The same hash chooses the part. At the
-end the built program is tried as a user would use it (trials/gate). What a step needs and isn't
+definitions is tried again, if at most 110 minutes have passed. The same hash chooses the part. At
+the end the built program is tried as a user would use it (trials/gate). What a step needs and isn't
 installed is left out, with a line. Before the last line stands what each failing step said.
 """
 from __future__ import annotations
@@ -39,6 +39,9 @@ SKIPPED = re.compile(r"skipped=(\d+)")
 TROUBLE = re.compile(r"fail|refus|error|panic|traceback|killed|not proved|timed out", re.I)
 # The number of these lines of a failing command that the end shows again.
 SHOWN_LINES = 40
+# After this many minutes no wrong definition is tried. That may take half an hour more, with a kit
+# that keeps no libraries for other copies of the tree. The program still has to be tried.
+LONG = 110
 
 
 @dataclass
@@ -177,8 +180,12 @@ def prove(tree: Tree) -> Count:
         wrong_bodies.clear(tree)
 
 
-def try_definitions(tree: Tree) -> Count:
-    """Tries a part of the wrong definitions, by the libraries that `rt ci` built."""
+def try_definitions(tree: Tree, begin: float) -> Count:
+    """Tries a part of the wrong definitions, unless the run that began then has taken long."""
+    minutes = (time.monotonic() - begin) / 60
+    if minutes > LONG:
+        print(f"gate: wrong definitions: left out, since {minutes:.0f} minutes have passed")
+        return Count()
     words = [sys.executable, "-m", "tools", "wrong-definitions", "--part"]
     return run_step(tree, Step("wrong definitions", words))
 
@@ -204,10 +211,10 @@ def main(words: Sequence[str], tree: Tree = Tree()) -> int:
     signal.signal(signal.SIGTERM, lambda number, frame: sys.exit(128 + number))
     # so that the programs of the tests heed Ctrl-C: a shell may start a background job without it
     signal.signal(signal.SIGINT, signal.default_int_handler)
-    total = run_steps(tree, quick_steps(tree))
+    begin, total = time.monotonic(), run_steps(tree, quick_steps(tree))
     if not is_quick and not total.failed:
         total.add(prove(tree))
-        total.add(try_definitions(tree))
+        total.add(try_definitions(tree, begin))
         total.add(try_program(tree))
     elif not is_quick:
         print("gate: a quick step failed, so the proofs and the trials aren't begun")

@@ -4,6 +4,7 @@ from __future__ import annotations
 import contextlib
 import io
 import sys
+import time
 import unittest
 from unittest import mock
 
@@ -92,6 +93,15 @@ class Gates(TreeTest):
                 with mock.patch.object(gate, "try_program", return_value=Count(5, 0)):
                     status, told = self.run_gate({}, [])
         self.assertEqual((status, told.splitlines()[-1]), (1, "56 passed, 1 failed"))
+
+    def test_after_a_long_run_no_wrong_definition_is_tried(self) -> None:
+        told = io.StringIO()
+        with mock.patch.object(gate, "run_step", side_effect=AssertionError):
+            with contextlib.redirect_stdout(told):
+                begin = time.monotonic() - 60 * (gate.LONG + 1)
+                count = gate.try_definitions(self.tree({}), begin)
+        self.assertEqual((count.passed, count.failed), (0, 0))
+        self.assertIn("left out, since 111 minutes have passed", told.getvalue())
 
     def test_without_a_program_the_gate_fails(self) -> None:
         with mock.patch.object(gate, "prove", return_value=Count(40, 0)):
