@@ -3,6 +3,7 @@ from __future__ import annotations
 
 import socket
 import subprocess
+import time
 import unittest
 from concurrent.futures import ThreadPoolExecutor
 from dataclasses import replace
@@ -18,11 +19,13 @@ from trials.lib.program import (
     files_of,
     free_base_port,
     journals_of,
+    ports_of,
 )
 
 GREATEST_NUMBER = 4_294_967_295
 GREATEST_PORT = GREATEST_CLIENT = 65_535
 BAD_COMMAND_LINE = 3
+PATIENT_SECONDS = 10  # for which `status` waits for an answer
 REFUSED = 4
 
 
@@ -135,6 +138,22 @@ class Serving(Case):
             self.ends(busy, 1, b"", b"urbd: network failed")
             daemon.stop()
 
+    def test_a_port_that_is_in_use_is_named(self) -> None:
+        for kind, is_packets, name in (
+            (socket.SOCK_DGRAM, True, b"UDP"),
+            (socket.SOCK_STREAM, False, b"TCP"),
+        ):
+            options = self.options(name.decode(), nodes=2)
+            packets, clients = ports_of(options.base_port, 2)[1]
+            port = packets if is_packets else clients
+            with self.subTest(kind=name), socket.socket(socket.AF_INET, kind) as taken:
+                taken.bind((LOCALHOST, port))
+                if kind == socket.SOCK_STREAM:
+                    taken.listen(1)
+                run = self.program.run(*options.words())
+                cause = b"%s port %d is in use\n" % (name, port)
+                self.ends(run, 1, b"", b"urbd: network failed: " + cause)
+
 
 class Asking(Case):
     def setUp(self) -> None:
@@ -219,6 +238,14 @@ class Asking(Case):
                             stream.sendall(answer)
                             stream.shutdown(socket.SHUT_WR)
                             self.ends(run.result(), 1, b"", error)
+
+    def test_a_node_that_hangs_has_no_status(self) -> None:
+        with socket.create_server((LOCALHOST, 0)) as server:  # it answers nothing
+            port = server.getsockname()[1]
+            begin = time.monotonic()
+            run = self.program.run("status", "--port", port, limit=6 * PATIENT_SECONDS)
+            self.ends(run, 1, b"%d no answer\n" % port, b"urbd: ")
+            self.assertGreater(time.monotonic() - begin, PATIENT_SECONDS - 1)
 
     def test_the_status_of_a_node_and_of_a_group(self) -> None:
         run = self.program.run

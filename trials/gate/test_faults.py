@@ -6,6 +6,7 @@ import os
 import resource
 import signal
 import subprocess
+import time
 import unittest
 from collections.abc import Iterator
 from contextlib import contextmanager, suppress
@@ -17,7 +18,15 @@ from urbd.errors import RefusedError
 
 from trials.gate.cases import Case
 from trials.lib.messages import Sent, log_of, wait_for_logs
-from trials.lib.program import PATIENCE, Daemon, NotOpen, Options, wait_until
+from trials.lib.program import (
+    PATIENCE,
+    Daemon,
+    NotOpen,
+    Options,
+    files_of,
+    journals_of,
+    wait_until,
+)
 
 CLIENT = 7
 PAGE = 4_096  # bytes, the least that a pipe has
@@ -26,6 +35,8 @@ DOWNS = 300  # how often a node goes down and comes back: more lines than wait f
 PAYLOAD = b"0123456789" * 100
 # The connections that a node serves at once, at least.
 SESSIONS = 4
+# A start or a stop that takes long is told after two seconds. A run isn't.
+QUIET_SECONDS = 4
 # What a node may answer while its disk is full.
 FULL_DISK = {Refusal.NO_MEMORY, Refusal.DOWN, Refusal.DEVICE}
 
@@ -237,6 +248,37 @@ class Inputs(Case):
             held.close()
             wait_until(lambda: daemon.process.poll() is not None, "the program ends")
             self.assertEqual(daemon.process.returncode, 0)
+
+    def test_lines_on_its_input_do_not_stop_a_group(self) -> None:
+        with self.program.serve(self.options()) as daemon:
+            assert daemon.process.stdin
+            for given in (b"\n", b"x", b"stop\n", b"y" * 10_000):
+                daemon.process.stdin.write(given)
+                daemon.process.stdin.flush()
+                time.sleep(0.2)
+                self.assertEqual(daemon.node(1).status().state, "ready")
+            daemon.stop()
+
+    def test_nothing_is_told_of_a_group_that_runs_well(self) -> None:
+        with self.program.serve(self.options()) as daemon:
+            daemon.node(1).submit(CLIENT, 1, b"served")
+            time.sleep(QUIET_SECONDS)
+            assert daemon.process.stdin and daemon.process.stderr
+            daemon.process.stdin.close()
+            self.assertEqual(daemon.process.stderr.read(), b"")
+            self.assertEqual(daemon.process.wait(PATIENCE), 0)
+
+    def test_its_files_are_closed_before_it_says_so(self) -> None:
+        options = self.options(nodes=MAX_NODES)
+        with self.program.serve(options) as daemon:
+            for node in daemon.nodes:
+                with daemon.connect(node) as connection:
+                    Sent(CLIENT, node).submit_all(connection, [PAYLOAD] * 64)
+            assert daemon.process.stdin and daemon.process.stdout
+            daemon.process.stdin.close()
+            self.assertTrue(daemon.process.stdout.readline().startswith(b"closed "))
+            self.assertEqual(files_of(options.folder), journals_of(MAX_NODES))
+            self.assertEqual(daemon.process.wait(PATIENCE), 0)
 
     def test_signals_end_it_and_nothing_is_lost(self) -> None:
         options, sent = self.options(), Sent(CLIENT, 1)

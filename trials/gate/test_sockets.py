@@ -2,18 +2,33 @@
 from __future__ import annotations
 
 import os
+import resource
 import socket
 import stat
+import subprocess
 from collections.abc import Callable
+from contextlib import suppress
 from dataclasses import replace
 from pathlib import Path
 
 from urbd import Follower, Publisher
+from urbd.constants import ASK_STATUS
 
 from trials.gate.cases import Case
-from trials.lib.program import Options, files_of
+from trials.lib.needs import missing_of
+from trials.lib.program import PATIENCE, Daemon, NotOpen, Options, files_of, wait_until
 
 MODE = 0o660  # of a socket if nothing else is said
+STATUS = bytes((0, 1, ASK_STATUS))
+
+
+def give_up(process: subprocess.Popen[bytes]) -> None:
+    """Ends a process whose end nobody has seen. Its input ends, and so does what it traces."""
+    for stream in (process.stdin, process.stdout, process.stderr):
+        if stream and not stream.closed:
+            stream.close()
+    process.kill()
+    process.wait(PATIENCE)
 
 
 class Sockets(Case):
@@ -104,10 +119,14 @@ class Sockets(Case):
         path = options.socket(2)
         target = self.room / "target"
         target.write_text("a letter")
+        ended = self.room / "ended.sock"  # a socket whose program has ended
+        with socket.socket(socket.AF_UNIX) as end:
+            end.bind(str(ended))
         makers: tuple[Callable[[], object], ...] = (
             lambda: path.write_text("a letter"),
             path.mkdir,
             lambda: path.symlink_to(target),
+            lambda: path.symlink_to(ended),
             lambda: os.mkfifo(path),
         )
         for make in makers:
@@ -119,6 +138,27 @@ class Sockets(Case):
             self.assertFalse(options.socket(1).exists(), "the socket of node 1 is removed")
             path.rmdir() if path.is_dir() and not path.is_symlink() else path.unlink()
         self.assertEqual(target.read_text(), "a letter")
+        self.assertTrue(ended.is_socket())
+
+    def test_a_refused_start_leaves_no_socket(self) -> None:
+        options = self.at_sockets(2, takes_tcp=True)
+        assert options.socket_dir
+        refused = 0
+        for limit in range(4, 64):
+
+            def set_limit(limit: int = limit) -> None:
+                resource.setrlimit(resource.RLIMIT_NOFILE, (limit, limit))
+
+            try:
+                daemon = self.program.serve(options, before=set_limit)
+            except NotOpen as fault:
+                self.assertEqual(fault.status, 1, fault)
+                refused += 1
+            else:
+                with daemon:
+                    daemon.stop()
+            self.assertEqual(files_of(options.socket_dir), [], f"{limit} descriptors")
+        self.assertTrue(0 < refused < 60, f"{refused} of 60 starts were refused")
 
     def test_a_socket_that_cannot_be_made_has_its_cause(self) -> None:
         options = self.at_sockets()
@@ -135,6 +175,37 @@ class Sockets(Case):
             closed.mkdir(mode=0o500)
             cause = "the program has no rights to make it"
             self.refuses(replace(options, socket_dir=closed), cause)
+
+    def test_who_connects_before_a_socket_has_its_mode_is_turned_away(self) -> None:
+        if missing_of(["strace"]):
+            self.skipTest("strace isn't here")
+        options = self.at_sockets()
+        path = options.socket(1)
+        quietly = ["strace", "-f", "-qq", "-o", "/dev/null", "-e", "trace=/chmod"]
+        late = [*quietly, "-e", "inject=/chmod:delay_enter=3000000"]
+        process = self.program.start(options, late)
+        self.addCleanup(give_up, process)
+        with socket.socket(socket.AF_UNIX) as early:
+            wait_until(lambda: early.connect_ex(str(path)) == 0, "the socket takes a client")
+            early.settimeout(PATIENCE)
+            with Daemon(process, options) as daemon:
+                self.assertEqual(stat.S_IMODE(os.stat(path).st_mode), MODE)
+                # Its connection was closed, so it gets no session.
+                with suppress(ConnectionError):
+                    early.sendall(STATUS)
+                    self.assertEqual(early.recv(1), b"")
+                self.assertEqual(daemon.node(1).status().state, "ready")
+                daemon.stop()
+
+    def test_answers_over_tcp_are_sent_at_once(self) -> None:
+        if missing_of(["strace"]):
+            self.skipTest("strace isn't here")
+        told = self.room / "calls"
+        watching = ["strace", "-f", "-qq", "-o", str(told), "-e", "trace=setsockopt"]
+        with self.program.serve(self.options(), watching) as daemon:
+            self.assertEqual(daemon.node(1).status().state, "ready")
+            daemon.stop()
+        self.assertIn("TCP_NODELAY, [1]", told.read_text())
 
     def test_options_that_do_not_fit_are_a_mistake(self) -> None:
         options = self.options()

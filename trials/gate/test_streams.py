@@ -4,25 +4,59 @@ from __future__ import annotations
 import json
 import os
 import signal
+import socket
 import subprocess
+import threading
+import time
 import unittest
 from collections.abc import Iterable
+from contextlib import suppress
 from dataclasses import replace
 
 from urbd.constants import MAX_PAYLOAD
 from urbd.frames import Entry
 
 from trials.gate.cases import Case
-from trials.lib.program import PATIENCE, Options, all_ports, wait_until
+from trials.lib.program import LOCALHOST, PATIENCE, Options, all_ports, wait_until
 
 CLIENT = 7
 REFUSED = 4
+MANY = 50  # lines
 INTERRUPTED = -signal.SIGINT
+AWAY = 5  # seconds: half of the time for which a command tries again
 
 
 def accepted(numbers: Iterable[int]) -> list[bytes]:
     """The lines of these names."""
     return [b"accepted %d\n" % number for number in numbers]
+
+
+class Relay:
+    """Passes the bytes of each connection on to a port, and counts the connections."""
+
+    def __init__(self, port: int) -> None:
+        self.target, self.count = port, 0
+        self.server = socket.create_server((LOCALHOST, 0))
+        self.port: int = self.server.getsockname()[1]
+        threading.Thread(target=self.accept, daemon=True).start()
+
+    def accept(self) -> None:
+        with suppress(OSError):  # the server is closed
+            while True:
+                near = self.server.accept()[0]
+                self.count += 1
+                far = socket.create_connection((LOCALHOST, self.target), PATIENCE)
+                for ends in ((near, far), (far, near)):
+                    threading.Thread(target=self.carry, args=ends, daemon=True).start()
+
+    def carry(self, source: socket.socket, target: socket.socket) -> None:
+        with suppress(OSError):
+            while more := source.recv(65_536):
+                target.sendall(more)
+            target.shutdown(socket.SHUT_WR)
+
+    def close(self) -> None:
+        self.server.close()
 
 
 class Streams(Case):
@@ -86,6 +120,19 @@ class Publishing(Streams):
             self.assertEqual(self.payloads(self.group), [b"one", b"", b"two", b"three"])
             daemon.stop()
 
+    def test_it_keeps_its_connection(self) -> None:
+        with self.program.serve(self.group) as daemon:
+            for command in (self.publish, self.follow):
+                relay = Relay(self.port)
+                self.addCleanup(relay.close)
+                words = command()
+                words[words.index("--port") + 1] = relay.port
+                process = self.begin(words)
+                self.feed(process, *[b"line"] * MANY)
+                self.assertNotIn(b"", self.lines(process, MANY))
+                self.assertEqual(relay.count, 1, "it asks all over one connection")
+            daemon.stop()
+
     def test_the_longest_line(self) -> None:
         with self.program.serve(self.group) as daemon:
             longest = b"x" * MAX_PAYLOAD
@@ -115,6 +162,7 @@ class Publishing(Streams):
             said = self.lines(publisher, 10)
             daemon.kill()
         self.feed(publisher, *texts[50:])
+        time.sleep(AWAY)
         with self.program.serve(self.group) as daemon:
             rest, error = publisher.communicate(timeout=PATIENCE)
             said += rest.splitlines(keepends=True)

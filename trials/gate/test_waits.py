@@ -3,10 +3,13 @@ from __future__ import annotations
 
 import time
 import unittest
+from concurrent.futures import ThreadPoolExecutor
 from contextlib import ExitStack
 from dataclasses import replace
+from pathlib import Path
 
-from urbd.frames import Entries, GetStatus, Read, Response, Status, Wait
+from urbd.constants import MAX_PAYLOAD
+from urbd.frames import Accepted, Entries, GetStatus, Read, Response, Status, Wait
 from urbd.node import Connection
 
 from trials.gate.cases import Case
@@ -24,6 +27,19 @@ SHORT = 1_500
 NOTHING: list[Response] = [Entries(())]
 # The longest time between two ticks, in milliseconds. A trial that needs no tick is over before.
 RARE_TICKS = 60_000
+BURST = 64  # long messages, more than wait in a socket
+WATCHED = 2  # seconds
+# How often a group without work wakes in a second: its timer looks for a stop 20 times.
+MOST_WAKES = 60
+
+
+def wakes_of(daemon: Daemon) -> int:
+    """How often the threads of a group have slept and woken again."""
+    count = 0
+    for path in Path(f"/proc/{daemon.process.pid}/task").iterdir():
+        lines = (path / "status").read_text().splitlines()
+        count += sum(int(it.split()[1]) for it in lines if it.startswith("voluntary_ctxt"))
+    return count
 
 
 class Waits(Case):
@@ -109,6 +125,20 @@ class Waits(Case):
             self.assertEqual(responses, [*NOTHING, entries, Status("ready", 1, 1), entries])
             daemon.stop()
 
+    def test_answers_to_requests_before_it_do_not_wait(self) -> None:
+        with self.program.serve(self.options()) as daemon, daemon.connect(1) as connection:
+            sent = Sent(CLIENT, 1)
+            requests = sent.requests((b"one", b"two"))
+            connection.send(*requests, GetStatus(), Wait(3, 8, LONGEST))
+            begin = time.monotonic()
+            expected = [Accepted(1), Accepted(2), Status("ready", 2, 2)]
+            self.assertEqual(connection.receive(3, PATIENCE), expected)
+            self.assertLess(time.monotonic() - begin, LONG - 5)
+            sent.payloads, sent.seqs = [b"one", b"two"], [1, 2]
+            self.submit(daemon, sent, b"three")
+            self.gets(connection, Entries((sent.entry(3),)))
+            daemon.stop()
+
     def test_a_node_that_is_down_answers_it(self) -> None:
         with self.program.serve(self.options()) as daemon, daemon.connect(1) as waiting:
             sent = Sent(CLIENT, 1)
@@ -133,6 +163,25 @@ class Waits(Case):
                 time.sleep(0.2)
                 daemon.node(3).restart()
                 self.gets(waiting, Entries((sent.entry(1),)))
+            daemon.stop()
+
+    def test_a_group_without_work_sleeps(self) -> None:
+        options = replace(self.options(nodes=3), tick_ms=RARE_TICKS)
+        with self.program.serve(options) as daemon, ExitStack() as opened:
+            sent = [Sent(CLIENT, node) for node in daemon.nodes]
+            with ThreadPoolExecutor(len(sent)) as pool:
+                payloads = [bytes(MAX_PAYLOAD)] * BURST
+                done = [pool.submit(self.submit, daemon, it, *payloads) for it in sent]
+                for it in done:
+                    it.result()
+            wait_for_logs(daemon, len(sent) * BURST)
+            for node in daemon.nodes:
+                waiting = opened.enter_context(daemon.connect(node))
+                waiting.send(Wait(1_000, 8, LONGEST))
+            time.sleep(1)
+            before = wakes_of(daemon)
+            time.sleep(WATCHED)
+            self.assertLess(wakes_of(daemon) - before, WATCHED * MOST_WAKES)
             daemon.stop()
 
     def test_all_followers_get_each_message(self) -> None:

@@ -36,6 +36,7 @@ mod stop;
 mod tick_queue;
 mod tick_timer;
 mod ticket;
+pub mod worked;
 
 pub use arrival_queue::ArrivalQueue;
 pub use backlog::{BACKLOG, Backlog, KEEPING};
