@@ -138,10 +138,10 @@ fn count_answers<K: HouseName, R: Wait>(
 }
 
 // Has a worker do the tickets of a course, over this store.
-fn work<K: HouseName, L: HubName, S: Stable<Alloc = Global>, R: Wait + Clock>(
-    rt: &R,
+fn work<'x, K: HouseName, L: HubName, S: Stable<Alloc = Global>, R: Wait + Clock>(
+    rt: &'x R,
     alloc: Global,
-    hub: &Hub<K, L>,
+    hub: &'x Hub<K, L>,
     tally: Tally<K, L>,
     store: &mut S,
     course: Course,
