@@ -18,7 +18,6 @@ use urb_turn::{Hub, HubName, Job, Tally};
 
 mod batches;
 mod bursts;
-mod cut_feeds;
 mod desks;
 mod drafts;
 mod earlier;

@@ -3,7 +3,6 @@
 ghost use Rattle.std.specs.Prelude.{◌≡◌, IfSome};
 ghost use Rattle.urb_show.specs.Houses.{IsNamed};
 
-use super::feeds::{make_stores, open_over};
 use super::{open_group, open_hub, submit};
 use crossbeam_channel::{Receiver, Sender};
 use std::alloc::Global;
@@ -17,7 +16,7 @@ use urb_group::{MemStable, Reply};
 use urb_link::{MemoryLink, Ticket};
 use urb_names::{NodeId, Refusal};
 use urb_show::{HouseName, Opened};
-use urb_stable::{AheadStore, Failure, Stable};
+use urb_stable::{AheadStore, Stable};
 use urb_turn::{Finished, Gate, Hub, HubName, Job, Silent, Tally};
 use urb_worker::{WorkerSetting, serve_from};
 
@@ -203,27 +202,6 @@ fn work_anew<S: Stable<Alloc = Global>, R: Wait + Clock>(
     work_at::<Brand, Brand, S, R>(rt, alloc, opened, Blank::new(1), store, course)
 }
 
-// The same at a group whose node has three messages, and over a store that has them and then fails.
-// Returns the store too.
-fn work_over_failing<R: Wait + Clock>(
-    rt: &R,
-    alloc: Global,
-    failure: Failure,
-    course: Course,
-) -> Option<(Served, MemStable)> {
-    let mut stores = make_stores(alloc, 1, 3, 3)?;
-    let opened = open_over(alloc, 1, stores.as_mut_slice())?;
-    let Some(mut inner) = stores.pop() else {
-        drop(opened.close());
-        return None;
-    };
-    inner.arm(failure);
-    let mut store = AheadStore::new(alloc, inner);
-    let blank = Blank::new(1);
-    let served = work_at::<Brand, Brand, _, R>(rt, alloc, opened, blank, &mut store, course)?;
-    Some((served, store.into_inner()))
-}
-
 // Submits of a client, from number 1 on, and a status.
 fn submits(count: u32) -> Course {
     Course {
@@ -251,90 +229,5 @@ fn five_submits_that_wait_share_one_call(rt: HostRuntime) -> Result<(), Fail> {
     let served = work_anew(&rt, rt.alloc(), &mut store, submits(5));
     assert_eq!(rt; served, Some(all_stored(6, 5)));
     assert_eq!(rt; (store.next(), store.left()), (6, 0));
-    Ok(())
-}
-
-// A record alone isn't held ahead.
-#[test]
-fn a_submit_alone_is_stored_as_before(rt: HostRuntime) -> Result<(), Fail> {
-    let mut store = AheadStore::new(rt.alloc(), MemStable::new(rt.alloc()));
-    let served = work_anew(&rt, rt.alloc(), &mut store, submits(1));
-    assert_eq!(rt; served, Some(all_stored(1, 1)));
-    assert_eq!(rt; (store.next(), store.left()), (2, 0));
-    Ok(())
-}
-
-// Of twenty tickets sixteen are a batch, and then four are. The status is one of them.
-#[test]
-fn a_batch_has_at_most_sixteen_tickets(rt: HostRuntime) -> Result<(), Fail> {
-    let mut store = AheadStore::new(rt.alloc(), MemStable::new(rt.alloc()));
-    let served = work_anew(&rt, rt.alloc(), &mut store, submits(19));
-    assert_eq!(rt; served, Some(all_stored(21, 19)));
-    assert_eq!(rt; (store.next(), store.left()), (20, 0));
-    Ok(())
-}
-
-// The first number is 3, so no message is the next one of its client. Nothing is drafted.
-#[test]
-fn submits_that_are_refused_have_no_records(rt: HostRuntime) -> Result<(), Fail> {
-    let mut store = AheadStore::new(rt.alloc(), MemStable::new(rt.alloc()));
-    let course = Course {
-        first: 3,
-        ..submits(5)
-    };
-    let served = work_anew(&rt, rt.alloc(), &mut store, course);
-    let wanted = Served {
-        others: 6,
-        ..all_stored(0, 0)
-    };
-    assert_eq!(rt; served, Some(wanted));
-    assert_eq!(rt; (store.next(), store.left()), (1, 0));
-    Ok(())
-}
-
-// Two records are held ahead before the crash, and the submit after it is refused.
-#[test]
-fn a_crash_ends_what_is_foreseen(rt: HostRuntime) -> Result<(), Fail> {
-    let mut store = AheadStore::new(rt.alloc(), MemStable::new(rt.alloc()));
-    let course = Course {
-        crashes: true,
-        ..submits(3)
-    };
-    let served = work_anew(&rt, rt.alloc(), &mut store, course);
-    let wanted = Served {
-        down: 1,
-        ..all_stored(3, 2)
-    };
-    assert_eq!(rt; served, Some(wanted));
-    assert_eq!(rt; (store.next(), store.left()), (3, 0));
-    Ok(())
-}
-
-// The store is asked once to hold the records ahead, and refuses. So it stores them one by one.
-#[test]
-fn a_store_that_holds_nothing_ahead_stores_each_record(rt: HostRuntime) -> Result<(), Fail> {
-    let mut store = MemStable::new(rt.alloc());
-    let served = work_anew(&rt, rt.alloc(), &mut store, submits(5));
-    assert_eq!(rt; served, Some(all_stored(6, 5)));
-    assert_eq!(rt; store.next(), 6);
-    Ok(())
-}
-
-// The first submit finds out that the store failed, and takes the node down. The others are told
-// that it is down. What was accepted before is still there.
-#[test]
-fn a_store_that_fails_ahead_loses_nothing_accepted(rt: HostRuntime) -> Result<(), Fail> {
-    let alloc = rt.alloc();
-    let (served, mut inner) = work_over_failing(&rt, alloc, Failure::Old, submits(5)).ok_or(
-        "memory",
-    )?;
-    let wanted = Served {
-        failed: 1,
-        down: 4,
-        ..all_stored(2, 0)
-    };
-    assert_eq!(rt; served, wanted);
-    let found = inner.retrieve(alloc).map_or(0, |records| records.len());
-    assert_eq!(rt; found, 3);
     Ok(())
 }
