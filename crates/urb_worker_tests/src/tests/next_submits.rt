@@ -26,7 +26,7 @@ const CASES: [Case; 8] = [
         most: 15,
         found: 2,
     },
-    // the same, of which one is asked for
+    // both again, and one is asked for
     Case {
         input: b"-\x00\x09\x01\x00\x07\x00\x00\x00\x01hi\x00\x09\x01\x00\x07\x00\x00\x00\x02ho",
         most: 1,
