@@ -15,9 +15,10 @@ from pathlib import Path
 
 from urbd.constants import MAX_NODES, Refusal
 from urbd.errors import RefusedError
+from urbd.frames import Refused
 
 from trials.gate.cases import Case
-from trials.lib.messages import Sent, log_of, wait_for_logs
+from trials.lib.messages import Sent, accepted, log_of, wait_for_logs
 from trials.lib.program import (
     PATIENCE,
     Daemon,
@@ -37,6 +38,7 @@ PAYLOAD = b"0123456789" * 100
 SESSIONS = 4
 # A start or a stop that takes long is told after two seconds. A run isn't.
 QUIET_SECONDS = 4
+TOGETHER = 16  # submits in one write: a worker takes them as one batch
 # What a node may answer while its disk is full.
 FULL_DISK = {Refusal.NO_MEMORY, Refusal.DOWN, Refusal.DEVICE}
 
@@ -67,6 +69,11 @@ class FullDisks(Case):
                 sent.payloads.append(PAYLOAD)
             except RefusedError as refused:
                 return refused.number
+
+    def has_all(self, daemon: Daemon, sent: Sent) -> None:
+        """The log of node 1 has what it accepted, in that order, and nothing else."""
+        entries = [sent.entry(number) for number in range(1, len(sent.seqs) + 1)]
+        self.assertEqual(log_of(daemon, 1), entries)
 
     def continues(self, daemon: Daemon, sent: Sent) -> None:
         """The node is restarted, has what it accepted, and accepts what it refused."""
@@ -100,6 +107,37 @@ class FullDisks(Case):
                     self.continues(daemon, it)
                 daemon.stop()
 
+    def fill_together(self, daemon: Daemon, sent: Sent) -> set[int]:
+        """Submits messages, many in one write, until the node refuses some. Gives the refusals."""
+        refusals: set[int] = set()
+        with daemon.connect(sent.node) as connection:
+            while not refusals:
+                for response in connection.ask(*sent.requests([PAYLOAD] * TOGETHER)):
+                    if isinstance(response, Refused):
+                        refusals.add(response.number)
+                    else:
+                        sent.seqs.append(accepted(response))
+                        sent.payloads.append(PAYLOAD)
+        return refusals
+
+    def test_a_disk_that_is_full_amid_a_batch(self) -> None:
+        options, sent = self.options(), Sent(CLIENT, 1)
+        with small_disk(options.folder, "1500k") as is_mounted:
+            if not is_mounted:
+                self.skipTest("no disk can be mounted here")
+            with self.program.serve(options) as daemon:
+                self.assertLessEqual(self.fill_together(daemon, sent), FULL_DISK)
+                remount = ["mount", "-o", "remount,size=64m", str(options.folder)]
+                subprocess.run(remount, check=True)
+                self.continues(daemon, sent)
+                with daemon.connect(1) as connection:
+                    sent.submit_all(connection, [PAYLOAD] * TOGETHER)
+                self.has_all(daemon, sent)
+                daemon.kill()
+            with self.program.serve(options) as daemon:
+                self.continues(daemon, sent)
+                daemon.stop()
+
     def test_a_limit_on_the_size_of_files(self) -> None:
         def limit_files() -> None:
             signal.signal(signal.SIGXFSZ, signal.SIG_IGN)
@@ -109,8 +147,7 @@ class FullDisks(Case):
         with self.program.serve(options, before=limit_files) as daemon:
             self.assertIn(self.fill(daemon, sent), FULL_DISK)
             self.assertGreater(len(sent.seqs), 0, "something was accepted before")
-            entries = [sent.entry(number) for number in range(1, len(sent.seqs) + 1)]
-            self.assertEqual(log_of(daemon, 1), entries)
+            self.has_all(daemon, sent)
             daemon.kill()
         with self.program.serve(options) as daemon:
             self.continues(daemon, sent)

@@ -88,15 +88,18 @@ inner_fresh : {S A : Type 0} (g : Ghosts S A) (stores : List S)
 inner_fresh g [] = refl
 inner_fresh g (store ∷ stores) = ap (λ xs. store ∷ xs) (inner_fresh g stores)
 
--- a wrapped store that holds nothing ahead yet
-fresh_sound : {S A : Type 0} (g : Ghosts S A) (store : S) → IsSound g (fresh g store)
+-- a wrapped store that holds nothing ahead yet is sound
+pub fresh_sound : {S A : Type 0} (g : Ghosts S A) (store : S) → IsSound g (fresh g store)
 fresh_sound g store = record {
   spent = λ e. refl;
   failing = λ e. refl;
-  unspent = λ e. omega arith;
+  bounded = omega arith;
   sure = λ some. absurd (omega (arith, some));
   settled = λ some e. absurd (omega (arith, some));
   follows = λ some e honest. absurd (omega (arith, some));
+  failed = λ e honest. absurd (cc);
+  began = λ e honest. absurd (cc);
+  alive = λ e honest clean. absurd (cc);
   counted = λ e honest. absurd (cc);
   left = λ some trusted. absurd (omega (arith, some));
 }

@@ -6,7 +6,7 @@ use Rattle.sqlite.specs.Files.{HoldsDatabase}
 use Rattle.sqlite_trees.specs.Tree.{Trees}
 use Rattle.sqlite_wal.specs.Recovery.{Image}
 use Rattle.urb_names.specs.LabelsAndContents.{Limits}
-use Rattle.urb_stable.specs.AheadStores.{AheadView, IsSound as IsSoundStore, ghosts_over}
+use Rattle.urb_stable.specs.AheadStores.{AheadView, ghosts_over}
 use Rattle.urb_stable.specs.Entries.{Entry}
 use Rattle.urb_stable.specs.StableStorage.{IsContents}
 use Rattle.urb_stable.specs.StoredTogether.{IsContentsOrAll}
@@ -28,7 +28,6 @@ module _ {S A : Type 0} (g : Ghosts S A) (opened : GroupView) (start : World) (p
   -- What a kill at any moment leaves in the files is what the next start takes. There is a store
   -- for each node of the group.
   pub killed_files : (stores : List (AheadView S))
-      → ((i : ℕ) (s : AheadView S) → slice_get stores i ≡ Some s → IsSoundStore g s)
       → AreKilledAt (ghosts_over g) opened start past stores
       → (may_leave : S → Trees → Type 0)
       → ((j : S) (P : List Entry → Type 0) → g.leaves_only j P → (image : Image) (db : Trees)
@@ -41,9 +40,9 @@ module _ {S A : Type 0} (g : Ghosts S A) (opened : GroupView) (start : World) (p
       → HoldsStopped (g.is_clean s.store) (may_leave s.store) (held (suc i)))
       → ((i : ℕ) → length stores ≤ i → i < limits.n → HoldsRecords (held (suc i)) [])
       → (v : World) × IsAsStored (after start past) v × HasLeft held old v limits
-  killed_files stores sounds killed may_leave leaves held old limits leads counted nodes places
+  killed_files stores killed may_leave leaves held old limits leads counted nodes places
       stopped none =
-      inside_files g (after start past) stores sounds
+      inside_files g (after start past) stores
       (killed-would (ghosts_over g) opened start past sound shows stores killed)
       (killed-tails (ghosts_over g) opened start past sound shows stores killed)
       may_leave leaves held old limits

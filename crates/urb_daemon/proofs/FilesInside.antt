@@ -10,7 +10,7 @@ use Rattle.sqlite_wal.specs.Recovery.{Image}
 use Rattle.urb_names.proofs.Places.{get_some}
 use Rattle.urb_names.specs.LabelsAndContents.{Limits}
 use Rattle.urb_names.specs.Nodes.{is_node}
-use Rattle.urb_stable.specs.AheadStores.{AheadView, IsSound as IsSoundStore, ghosts_over}
+use Rattle.urb_stable.specs.AheadStores.{AheadView, ghosts_over}
 use Rattle.urb_stable.specs.Entries.{Entry}
 use Rattle.urb_stable.specs.Records.{pend}
 use Rattle.urb_stable.specs.StableStorage.{IsContents}
@@ -116,7 +116,6 @@ module _ (held : ℕ → Image) (old : GroupView) (w : World) where
 -- Each file holds what a stop left of a store inside another one. It may leave that of its node, or
 -- of the node as its store has it. There is a store for each node of the group.
 pub inside_files : {S A : Type 0} (g : Ghosts S A) (w : World) (stores : List (AheadView S))
-    → ((i : ℕ) (s : AheadView S) → slice_get stores i ≡ Some s → IsSoundStore g s)
     → WouldLeave (ghosts_over g) w stores → HaveTails (ghosts_over g) w stores
     → (may_leave : S → Trees → Type 0)
     → ((j : S) (P : List Entry → Type 0) → g.leaves_only j P → (image : Image) (db : Trees)
@@ -129,7 +128,7 @@ pub inside_files : {S A : Type 0} (g : Ghosts S A) (w : World) (stores : List (A
     → HoldsStopped (g.is_clean s.store) (may_leave s.store) (held (suc i)))
     → ((i : ℕ) → length stores ≤ i → i < limits.n → HoldsRecords (held (suc i)) [])
     → (v : World) × IsAsStored w v × HasLeft held old v limits
-inside_files {S} g w stores sounds would tails may_leave leaves held old limits sound counted nodes
+inside_files {S} g w stores would tails may_leave leaves held old limits sound counted nodes
     shows places stopped none =
     found_files held old w limits sound counted nodes shows found
   where
@@ -199,8 +198,7 @@ inside_files {S} g w stores sounds would tails may_leave leaves held old limits 
             let s = get_some stores i less in
             let it = stopped i s.0 s.1 in
             one i s.0.store (is_one i less) it
-            (inside-leaves g w (suc i) s.0 (sounds i s.0 s.1) it.clean (would i s.0 s.1 it.clean)
-            (tails i s.0 s.1))
+            (inside-leaves g w (suc i) s.0 it.clean (would i s.0 s.1 it.clean) (tails i s.0 s.1))
 
         past : length stores ≤ i → Found held old w i
         past more =

@@ -1,6 +1,7 @@
 -- How a run of a group ends, also over stores that a stop had left.
 use Rattle.std.proofs.Common.{Bool, Err, IfSome, List, None, Ok, Option, Result, Some, [], ap}
-use Rattle.std.proofs.Common.{arith, false, inl, inr, refl, subst, suc, sym, true, ℕ, ◌∙◌, ◌≡◌}
+use Rattle.std.proofs.Common.{arith, false, inl, inr, refl, subst, suc, sym, true, ℕ, ⊎_elim, ◌∙◌}
+use Rattle.std.proofs.Common.{◌≡◌}
 use Rattle.std.proofs.lemmas.List.Elements.{recursion_from_All}
 use Rattle.std.specs.List.{All}
 use Rattle.std.specs.Prelude.{slice_get, slice_index_or}
@@ -98,7 +99,7 @@ stops-if-ended {S} g own stores group asked lasts from events told end whole end
     bare : HoldNoneAhead g asked
     bare i store got =
         let one = given-at g stores from.images asked from.given i store got in
-        one.2.ahead.ahead ∙ none i one.0 one.1
+        ⊎_elim (λ keeps. keeps.ahead ∙ none i one.0 one.1) (λ drops. drops) one.2.ahead
 
     at : (events : Option ℕ) (told : Bool)
         → IfSome events (λ count. EndsWhole g group asked lasts)

@@ -1,9 +1,9 @@
 -- What a stop leaves of a store that is inside one with records ahead (`inside-leaves`).
-use Rattle.std.proofs.Common.{Bool, List, None, Option, [], ap, append_assoc, false, inl, inr}
-use Rattle.std.proofs.Common.{subst, sym, true, ℕ, ⊎_elim, ◌++◌, ◌∙◌, ◌∷◌, ◌≡◌, ◌⊎◌}
+use Rattle.std.proofs.Common.{List, None, Option, [], ap, append_assoc, arith, inl, inr, length}
+use Rattle.std.proofs.Common.{◌<◌, subst, sym, ℕ, ⊎_elim, ◌++◌, ◌∙◌, ◌∷◌, ◌≡◌, ◌⊎◌}
 use Rattle.std.proofs.lemmas.List.{append-nil, append_cancel_left}
 use Rattle.urb_stable.proofs.Contents.{IsEither, contents-either}
-use Rattle.urb_stable.specs.AheadStores.{AheadView, IsInside, IsSound, ghosts_over}
+use Rattle.urb_stable.specs.AheadStores.{AheadView, LeavesInner, ghosts_over}
 use Rattle.urb_stable.specs.Entries.{Entry}
 use Rattle.urb_stable.specs.Records.{pend}
 use Rattle.urb_stable.specs.StableStorage.{IsContents}
@@ -53,17 +53,18 @@ split records base ahead tail doubtful contents all =
 
 module _ {S A : Type 0} (g : Ghosts S A) (w : World) (p : ℕ) (s : AheadView S) where
   -- no records are ahead: the base is what a stop may leave of the node
-  none-ahead : IsSound g s → s.ahead ≡ []
-      → g.leaves_only s.store (IsInside s.failing s.base s.ahead) → MayLeave (w.node p) s.base
-      → LeavesOf g (w.node p) s.store
-  none-ahead sound none only may =
+  none-ahead : s.ahead ≡ [] → LeavesInner (g.leaves_only s.store) s.base s.ahead
+      → MayLeave (w.node p) s.base → LeavesOf g (w.node p) s.store
+  none-ahead none (inr (some, only)) may =
+      let impossible : 0 < length {A = Entry} [] = rw none at some in
+      absurd (omega (arith, impossible))
+  none-ahead none (inl only) may =
       record {
         certain = s.base ++ [];
         doubtful = None;
         only =
-            subst (λ (b : Bool). g.leaves_only s.store (IsInside b s.base [])) (sound.failing none)
-            (subst (λ (rs : List Entry). g.leaves_only s.store (IsInside s.failing s.base rs)) none
-            only);
+            subst (λ (rs : List Entry). g.leaves_only s.store (IsContents (s.base ++ rs) None)) none
+            only;
         may =
             λ records e. subst (λ (rs : List Entry). MayLeave (w.node p) rs)
             (sym (e ∙ append-nil s.base)) may;
@@ -71,7 +72,7 @@ module _ {S A : Type 0} (g : Ghosts S A) (w : World) (p : ℕ) (s : AheadView S)
 
   -- records are ahead: the tail of the node's records begins with those given out
   some-ahead : HasTail (ghosts_over g) w p s
-      → g.leaves_only s.store (IsInside s.failing s.base s.ahead) → MayLeave (w.node p) s.base
+      → LeavesInner (g.leaves_only s.store) s.base s.ahead → MayLeave (w.node p) s.base
       → LeavesTail g w p s.store
   some-ahead t only may =
       record {
@@ -82,27 +83,27 @@ module _ {S A : Type 0} (g : Ghosts S A) (w : World) (p : ℕ) (s : AheadView S)
             t.may;
         short =
             subst (λ (rs : List Entry). AreShort (pend (stored w p ++ rs))) it.tail_is t.short;
-        only = inside s.failing only;
+        only = inside only;
       }
     where
       it : IsSplit (stored w p) s.base s.ahead t.tail
       it = split (stored w p) s.base s.ahead t.tail (doubt (w.node p).state) may t.all
 
-      inside : (failing : Bool) → g.leaves_only s.store (IsInside failing s.base s.ahead)
+      inside : LeavesInner (g.leaves_only s.store) s.base s.ahead
           → g.leaves_only s.store (IsContents ((stored w p ++ it.given) ++ s.ahead) None)
           ⊎ g.leaves_only s.store (IsContentsOrAll s.ahead (stored w p ++ it.given) None)
-      inside false h =
+      inside (inl h) =
           inl (subst (λ (rs : List Entry). g.leaves_only s.store (IsContents (rs ++ s.ahead) None))
           it.base_is h)
-      inside true h =
+      inside (inr (some, h)) =
           inr (subst (λ (rs : List Entry). g.leaves_only s.store (IsContentsOrAll s.ahead rs None))
           it.base_is h)
 
   -- What a stop leaves of the inner store, if it leaves of the outer one what it may leave of node
   -- p. The inner store's storage has returned what was written.
-  pub inside-leaves : IsSound g s → g.is_clean s.store → LeavesOf (ghosts_over g) (w.node p) s
+  pub inside-leaves : g.is_clean s.store → LeavesOf (ghosts_over g) (w.node p) s
       → WouldHaveTail (ghosts_over g) w p s → LeavesInsideNode g w p s.store
-  inside-leaves sound clean of tail = at of.only
+  inside-leaves clean of tail = at of.only
     where
       at : (ghosts_over g).leaves_only s (IsContents of.certain of.doubtful)
           → LeavesInsideNode g w p s.store
@@ -115,5 +116,5 @@ module _ {S A : Type 0} (g : Ghosts S A) (w : World) (p : ℕ) (s : AheadView S)
           })
       at (inr held) =
           let may : MayLeave (w.node p) s.base = of.may s.base held.1 in
-          ⊎_elim (λ none. inl (none-ahead sound none held.0 may))
+          ⊎_elim (λ none. inl (none-ahead none held.0 may))
           (λ t. inr (some-ahead t held.0 may)) (tail clean)

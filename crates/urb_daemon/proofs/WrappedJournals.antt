@@ -25,24 +25,6 @@ clean_if : (failing : Bool) (was_honest is_clean is_honest : Type 0) → (is_hon
 clean_if true was_honest is_clean is_honest cleans whole = whole.1
 clean_if false was_honest is_clean is_honest cleans whole = cleans whole
 
--- a store with no failure of its own is honest if its inner store is
-found_over : (image : Image) (is_clean is_honest : Type 0) (records : List Entry)
-    → IsFoundIn image is_clean is_honest records
-    → IsFoundIn image is_clean (is_honest × (false ≡ false)) records
-found_over image is_clean is_honest records found = record {
-  stood = λ clean db holds journal.
-      let it = found.stood clean db holds journal in
-      ((it.0, refl), it.1);
-  fresh = λ clean e. let it = found.fresh clean e in ((it.0, refl), it.1);
-  unmade = λ clean is. let it = found.unmade clean is in ((it.0, refl), it.1);
-  empty = λ clean db holds bare.
-      let it = found.empty clean db holds bare in
-      ((it.0, refl), it.1);
-  adopted = λ clean db holds base.
-      let it = found.adopted clean db holds base in
-      ((it.0, refl), it.1);
-}
-
 module _ {S A : Type 0} (g : Ghosts S A) where
   -- each element of the wrapped list is a wrapped store
   wrapped_at : (P : ℕ → AheadView S → Type 0) (from : ℕ → ℕ) (stores : List S)
@@ -66,8 +48,7 @@ module _ {S A : Type 0} (g : Ghosts S A) where
   found_wrapped held journals found =
       wrapped_at (λ i s. IsFoundIn (held (suc i)) ((ghosts_over g).is_clean s)
       ((ghosts_over g).is_honest s) ((ghosts_over g).certain s)) (λ i. i) journals
-      (λ i journal got. found_over (held (suc i)) (g.is_clean journal) (g.is_honest journal)
-      (g.certain journal) (found i journal got))
+      (λ i journal got. found i journal got)
 
   -- If honest journals are clean and have no record in doubt, a run over wrapped journals resumes.
   pub resumes_ahead : (held : ℕ → Image) (size : Limits) (journals : List S) (told : Bool)
@@ -81,5 +62,5 @@ module _ {S A : Type 0} (g : Ghosts S A) where
       ran.goes_on (found_wrapped held journals found) (length-map journals (fresh g) ∙ count)
       (λ s honest.
       clean_if s.failing (g.is_honest s.start) (g.is_clean s.store) (g.is_honest s.store)
-      (cleans s.store) honest.0)
+      (cleans s.store) honest)
       (λ s. sure s.store) (none_ahead journals)

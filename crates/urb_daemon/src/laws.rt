@@ -10,7 +10,7 @@ ghost use Rattle.urb_names.specs.ListPrefixes.{Begins};
 ghost use Rattle.urb_names.specs.Nodes.{is_node};
 ghost use Rattle.urb_node.specs.Replies.{Same};
 ghost use Rattle.urb_node.specs.declared.answer.Answer.TheVariants.{Accepted};
-ghost use Rattle.urb_stable.specs.AheadStores.{IsSound as IsSoundStore, ghosts_over};
+ghost use Rattle.urb_stable.specs.AheadStores.{ghosts_over};
 ghost use Rattle.urb_stable.specs.DeliveredLogs.{entries};
 ghost use Rattle.urb_stable.specs.Entries.{Entry};
 ghost use Rattle.urb_world.specs.Acceptance.{HasStored};
@@ -96,8 +96,6 @@ pub fn a_stop_inside_leaves_what_the_next_start_takes<D: NodeDisk>(
         WouldLeave (ghosts_over ⟦<Journal<D> as Stable>⟧) w stores.now →
         HaveTails (ghosts_over ⟦<Journal<D> as Stable>⟧) w stores.now →
         ((i : ℕ) (s : _) → slice_get stores.now i ≡ Some s →
-        IsSoundStore ⟦<Journal<D> as Stable>⟧ s) →
-        ((i : ℕ) (s : _) → slice_get stores.now i ≡ Some s →
         HoldsStopped (⟦<Journal<D> as Stable>⟧.is_clean s.store)
         (file_state s.store.journal.conn).may_leave (held (suc i))) →
         ((i : ℕ) → length stores.now ≤ i → i < size.n → HoldsRecords (held (suc i)) []) →
@@ -115,8 +113,6 @@ pub fn a_kill_leaves_what_the_next_start_takes<D: NodeDisk>(stores: &[AheadStore
         length old.nodes ≡ old.size.n → old.size.n ≤ size.n →
         length old.nodes ≡ length stores.now →
         AreKilledAt (ghosts_over ⟦<Journal<D> as Stable>⟧) first start past stores.now →
-        ((i : ℕ) (s : _) → slice_get stores.now i ≡ Some s →
-        IsSoundStore ⟦<Journal<D> as Stable>⟧ s) →
         ((i : ℕ) (s : _) → slice_get stores.now i ≡ Some s →
         HoldsStopped (⟦<Journal<D> as Stable>⟧.is_clean s.store)
         (file_state s.store.journal.conn).may_leave (held (suc i))) →

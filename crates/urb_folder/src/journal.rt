@@ -80,6 +80,8 @@ impl<D: Disk> Stable for Journal<D> {
 
     ghost base = { λ j. ⟦<SqlStable<FileStore<D>> as Stable>⟧.base j.journal };
 
+    ghost can_hold = { λ j. ⟦<SqlStable<FileStore<D>> as Stable>⟧.can_hold j.journal };
+
     fn next(&self) -> u32 {
         self.journal.next()
     }
@@ -98,5 +100,13 @@ impl<D: Disk> Stable for Journal<D> {
 
     fn retrieve(&mut self, alloc: Global) -> Result<Vec<Record>, StoreFault> {
         self.journal.retrieve(alloc)
+    }
+
+    fn store_ahead(&mut self, records: &mut Vec<Record>) -> Result<(), StoreFault> {
+        self.journal.store_ahead(records)
+    }
+
+    fn withdraw(&mut self, count: usize) -> Result<(), StoreFault> {
+        self.journal.withdraw(count)
     }
 }

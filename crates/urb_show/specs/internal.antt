@@ -5,5 +5,6 @@ pub mod Pasts
 pub mod Operations
 pub mod PublishingRule
 pub mod Examples
+pub mod HouseExamples
 pub mod ServiceExamples
 pub mod ReaderExamples

@@ -9,6 +9,7 @@ ghost use Rattle.urb_show.specs.DeliveredLists.{HaveDelivered};
 ghost use Rattle.urb_show.specs.Houses.{next_count};
 ghost use Rattle.urb_show.specs.Lists.{Agree, Begins, list_at, lists_in};
 
+pub mod houses;
 pub mod pages;
 pub mod readers;
 pub mod service;

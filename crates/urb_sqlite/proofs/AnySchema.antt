@@ -1,5 +1,5 @@
--- What INSERT, SELECT and CREATE are under a schema that is not known, and CREATE under one that
--- has the table.
+-- What INSERT, DELETE, SELECT and CREATE are under a schema that is not known, and CREATE under one
+-- that has the table.
 use Rattle.urb_sqlite.proofs.Common.{Bool, Compiled, Err, HasTable, Insert, List, NoSuchTable, None}
 use Rattle.urb_sqlite.proofs.Common.{Ok, Option, Parsed, Returning, Rows, Some, [], and_then, ap}
 use Rattle.urb_sqlite.proofs.Common.{cases_Bool, compiled, cond, false, first, if_select}
@@ -10,12 +10,18 @@ use Rattle.urb_sqlite.proofs.Common.{◌≡◌, ◌⊎◌}
 use Rattle.sqlite.specs.Schema.{Schema}
 use Rattle.sqlite_schema.specs.declared.command.Source.{Source}
 use Rattle.sqlite.specs.Command.{Command}
-use Rattle.sqlite.specs.Command.TheVariants.{CreateTable, Nothing}
+use Rattle.sqlite.specs.Command.TheVariants.{CreateTable, Delete, Nothing}
+use Rattle.sqlite_schema.specs.declared.program.Program.{Program}
+use Rattle.sqlite_ast.specs.declared.Expr.{Expr}
+use Rattle.sqlite_resolve.specs.Write.{deleted}
+use Rattle.sqlite_resolve.specs.Program.{program}
+use Rattle.urb_sqlite.proofs.DeleteStatement.{Takes}
 use Rattle.std.specs.Option.{option_or}
 use Rattle.sqlite_resolve.specs.Lowering.{Checked}
 use Rattle.sqlite_resolve.specs.Body.{table_at}
 use Rattle.sqlite.specs.Table.{Table}
-use Rattle.sqlite_resolve.specs.Compile.{command, create_table, creates, insert, insert_or_abort}
+use Rattle.sqlite_resolve.specs.Compile.{command, create_table, creates, delete, insert}
+use Rattle.sqlite_resolve.specs.Compile.{insert_or_abort}
 use Rattle.sqlite_resolve.specs.Compile.{is_attached, is_reserved, meaning, planned, returning}
 use Rattle.sqlite_resolve.specs.Compile.{shows, small, target, timed}
 use Rattle.sqlite.specs.Listing.{is_select}
@@ -104,7 +110,7 @@ understood_means s text p parsed c h = elim (cases_Bool (reads_listing s text)) 
     selected (Ok x) e = chosen (is_select x.command) x e
     selected (Err e) n = absurd (let m = n in cc)
 
--- ---- INSERT and SELECT
+-- ---- INSERT, DELETE and SELECT
 
 abbrev IsInsert : Command → Type 0
 IsInsert command = (at : ℕ) × (from : Source) × (command ≡ Insert at from)
@@ -122,6 +128,34 @@ insert_means s formats base name rows c h =
     c at.2 in
     let from = gone (new_rows s table.0 base [] rows) (made at.0 table.0) c table.2 in
     (at.0, from.0, let e : Insert at.0 from.0 ≡ c = let m = from.2 in cc in sym e)
+
+abbrev IsDelete : Command → Type 0
+IsDelete command = (at : ℕ) × (q : Program) × (command ≡ Delete at q)
+
+-- the command of a DELETE deletes rows
+delete_means : (s : Schema) (formats : _) (base : ℕ) (name : List ℕ) (e : Expr) (c : Command)
+    → command s formats base (written.Delete name (Some e) []) ≡ Ok c → IsDelete c
+unfolding command delete
+delete_means s formats base name e c h =
+    let made : ℕ → Program → Checked Command = λ at q. Ok (Delete at q) in
+    let at =
+    gone (target s name) (λ at. and_then (table_at s at)
+    (λ table. and_then (deleted s at table (Some e)) (λ d. and_then (program s [] d) (made at))))
+    c h in
+    let table =
+    gone (table_at s at.0)
+    (λ table. and_then (deleted s at.0 table (Some e)) (λ d. and_then (program s [] d) (made at.0)))
+    c at.2 in
+    let draft =
+    gone (deleted s at.0 table.0 (Some e)) (λ d. and_then (program s [] d) (made at.0)) c table.2 in
+    let q = gone (program s [] draft.0) (made at.0) c draft.2 in
+    (at.0, q.0, let e : Delete at.0 q.0 ≡ c = let m = q.2 in cc in sym e)
+
+-- a DELETE without RETURNING shows no rows
+bare_delete : (s : Schema) (base : ℕ) (name : List ℕ) (e : Expr)
+    → returning s base (written.Delete name (Some e) []) ≡ Ok None
+unfolding returning shows
+bare_delete s base name e = refl
 
 bare_insert : (s : Schema) (base : ℕ) (name : List ℕ) (rows : Rows)
     → returning s base (written.Insert conflict.Abort name [] rows [] []) ≡ Ok None
@@ -143,6 +177,20 @@ inserts_in_any text name parsed s c h =
     sym m.returning_is ∙ ap (returning it.0 m.base) parsed.of.statement
     ∙ bare_insert it.0 m.base name parsed.rows in (
       insert_means it.0 m.formats m.base name parsed.rows c.command
+          (ap (command it.0 m.formats m.base) (sym parsed.of.statement) ∙ m.command_is),
+      cc,
+    )
+
+-- Whatever the schema is, a DELETE deletes, and shows no rows.
+pub deletes_in_any : (text name : List ℕ) → Takes text name → (s : Schema) (c : Compiled)
+    → understood s text ≡ Ok c → IsDelete c.command × (c.returning ≡ None)
+deletes_in_any text name parsed s c h =
+    let it = understood_means s text parsed.p parsed.of.parsed c h in
+    let m = it.1 in
+    let none : Ok c.returning ≡ Ok None =
+    sym m.returning_is ∙ ap (returning it.0 m.base) parsed.of.statement
+    ∙ bare_delete it.0 m.base name parsed.e in (
+      delete_means it.0 m.formats m.base name parsed.e c.command
           (ap (command it.0 m.formats m.base) (sym parsed.of.statement) ∙ m.command_is),
       cc,
     )

@@ -170,8 +170,8 @@ pub record IsAdded (old new : State) (place : ℕ) (r : Entry) : Type 0 where
   pub records : records_of new.now ≡ records_of old.now ++ r ∷ []
   pub counted : IsCounted new.now (place + 1)
 
--- the rows of the first table are kept when a row is put into the other
-first_kept : (s : Schema) (old new : Trees) → HasBoth s
+-- the rows of the first table are kept when those of the other change
+pub first_kept : (s : Schema) (old new : Trees) → HasBoth s
     → AllByRecursion (λ (t : Table). t.tree ≢ tree_of s second_name → new t.tree ≡ old t.tree)
     s.tables → new (tree_of s journal_name) ≡ old (tree_of s journal_name)
 first_kept s old new has others =

@@ -38,7 +38,6 @@ use Rattle.sqlite_resolve.specs.Program.{query, query_to}
 use Rattle.sqlite_schema.specs.declared.program.Table.{Table as Let}
 use Rattle.sqlite_ast.specs.declared.Origin.TheVariants as origin
 use Rattle.sqlite_schema.specs.declared.schema.Column as schema
-use Rattle.sqlite_resolve.specs.declared.state.Passes.TheVariants as hands
 use Rattle.sqlite_resolve.specs.Scope as scope
 use Rattle.sqlite_resolve.specs.Body as body
 use Rattle.sqlite_resolve.specs.Order as order
@@ -46,7 +45,6 @@ use Rattle.sqlite_resolve.specs.Select as select
 use Rattle.sqlite_ast.specs.declared.Statement.TheVariants as written
 use Rattle.sqlite_resolve.specs.Program as program
 use Rattle.sqlite_resolve.specs.Compile as compile
-use Rattle.sqlite_resolve.specs.Define as define
 use Rattle.sqlite_schema.specs.declared.command.Command.TheVariants as command
 use Rattle.sqlite_schema.specs.declared.command.Source as source
 use Rattle.sqlite_ast.specs.declared.Conflict.TheVariants as conflict
@@ -130,7 +128,8 @@ module _ (s : Schema) (at : ℕ) (t : Table) (there : slice_get s.tables at ≡ 
   column_is n shown g name k c st named has =
       rw (find_is n shown g name k named) (term_is n shown g k c st has)
 
-  node_is : (below : Context → Expr → Lowering Term) (n : Name) (shown : List Output) (g : Bool)
+  -- a column of the table is resolved to its place
+  pub node_is : (below : Context → Expr → Lowering Term) (n : Name) (shown : List Output) (g : Bool)
       (e : Expr) (name : Name) (k : ℕ) (c : schema.Column) (next budget : ℕ) (last : Carried)
       → out-Expr e ≡ Expr-F.Column None name → column_named t name ≡ Some k
       → slice_get t.columns k ≡ Some c → nat_lt 1 budget ≡ true
@@ -456,7 +455,8 @@ pub record IsOfText (text : List ℕ) (p : Parsed) (st : Statement) : Type 0 whe
 abbrev pub base_of : Parsed → ℕ
 base_of p = compile.small p.names + 0
 
-compiled_is : (s : Schema) (text : List ℕ) (p : Parsed) (st : Statement) (c : Command)
+-- a text means what its statement means
+pub compiled_is : (s : Schema) (text : List ℕ) (p : Parsed) (st : Statement) (c : Command)
     → IsOfText text p st → compile.timed s [] st ≡ [] → compile.returning s (base_of p) st ≡ Ok None
     → compile.command s [] (base_of p) st ≡ Ok c
     → compiled s text ≡ Ok (with_command p ([], (c, None)))

@@ -44,7 +44,8 @@ sorted_rows tree os keyed sorted k d low high =
     let there = keyed (k + 1) e inside in
     rw (now, next, ← here, ← there) (ap is_lt (sym (then-Equal _)) ∙ sorted k e low inside)
 
-overlaid : (db : Trees) (tree : ℕ) → nat_le (2 ^ 31) tree ≡ false → overlay db [] tree ≡ db tree
+-- a stored tree isn't one that the statement computes
+pub overlaid : (db : Trees) (tree : ℕ) → nat_le (2 ^ 31) tree ≡ false → overlay db [] tree ≡ db tree
 overlaid db tree stored = rw stored refl
 
 -- The SELECT shows the rows of its table, in order of pos.

@@ -81,7 +81,8 @@ filled old last new place rs h end = record {
 
 -- ---- the journal
 
-has_then : (old new : Database) → new.schema ≡ old.schema → HasBoth new.schema → HasBoth old.schema
+-- if both tables are there after a call that keeps the schema, they were there before
+pub has_then : (old new : Database) → new.schema ≡ old.schema → HasBoth new.schema → HasBoth old.schema
 has_then old new same has = same_first (sym same) has
 
 -- records that one transaction committed are added to the journal

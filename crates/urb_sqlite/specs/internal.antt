@@ -2,6 +2,7 @@ pub mod JournalStatements
 pub mod TreeRows
 pub mod JournalChanges
 pub mod TransactionChanges
+pub mod TableReferences
 pub mod PartOpening
 pub mod Blame
 pub mod LogLengths

@@ -9,7 +9,7 @@ ghost use Rattle.urb_sqlite.specs.OpenJournal.{OpenJournal, IsHonestJournal, IsT
 ghost use Rattle.urb_sqlite.specs.OpenJournal.{IsGivenBack, IsSafeAtRest, LeavesOnly};
 ghost use Rattle.urb_sqlite.specs.internal.JournalChanges.{IsInStep};
 
-use crate::{MessagePool, records};
+use crate::{MessagePool, records, table_shape, withdrawing};
 use sqlite::{Alter, Connection, FileStore};
 use sqlite_disk::Disk;
 use std::alloc::Global;
@@ -21,8 +21,8 @@ use urb_stable::{Record, Stable, StoreFault};
 /// records go into `journal2` alone. The records of `journal`, the older table, come before them. A
 /// record is one row. A record alone is stored by one INSERT outside any transaction. Records that
 /// come together are stored by the INSERTs of one transaction. So one commit holds whole records,
-/// and all of those that come together. Nothing else may write the database while this value holds
-/// it.
+/// and all of those that come together. The last records are taken out again by one DELETE, in a
+/// transaction. Nothing else may write the database while this value holds it.
 ///
 /// `Device` is any refusal of the database except for memory, and each one raises the count of
 /// failures by one. If that count is at its greatest value, 2^64 - 1, the next failure returns
@@ -145,7 +145,7 @@ impl<D: Disk> SqlStable<FileStore<D>> {
 }
 
 impl<S: Alter> Stable for SqlStable<S> {
-    ghost use Rattle.std.specs.Prelude.{None, []};
+    ghost use Rattle.std.specs.Prelude.{None, [], false};
     ghost use Rattle.sqlite.specs.Held.{state};
     ghost use Rattle.sqlite.specs.State.{HasCleanDisk};
     ghost use Rattle.urb_sqlite.specs.RowReadings.{records_of};
@@ -178,6 +178,8 @@ impl<S: Alter> Stable for SqlStable<S> {
     ghost ahead = { λ _. [] };
 
     ghost base = { λ _. [] };
+
+    ghost can_hold = { λ _ _. false };
 
     fn next(&self) -> u32 {
         self.next
@@ -236,5 +238,30 @@ impl<S: Alter> Stable for SqlStable<S> {
         let records = records::read(alloc, shared, &mut self.conn, &mut self.failures)?;
         self.doubtful = false;
         Ok(records)
+    }
+
+    fn store_ahead(&mut self, _records: &mut Vec<Record>) -> Result<(), StoreFault> {
+        // Called for its clause that the database obeys its schema.
+        let _schema = self.conn.schema();
+        Err(StoreFault::Place(self.next))
+    }
+
+    fn withdraw(&mut self, count: usize) -> Result<(), StoreFault> {
+        // No foreign key may act when rows are taken out.
+        let is_apart = table_shape::is_apart(self.conn.schema());
+        if self.doubtful || self.next as usize <= count || !is_apart {
+            return Err(StoreFault::Place(self.next));
+        }
+        if count == 0 {
+            return Ok(());
+        }
+        let first = self.next - count as u32;
+        match withdrawing::remove_last(&mut self.conn, &mut self.failures, first, count) {
+            Ok(()) => {
+                self.next = first;
+                Ok(())
+            }
+            Err(fault) => Err(fault),
+        }
     }
 }

@@ -30,6 +30,7 @@ mod records;
 mod rows;
 mod sql;
 mod table_shape;
+mod withdrawing;
 
 pub use claims::{FolderClaim, Named, NodeClaim, NodeClaims, Opening};
 pub use journal::SqlStable;

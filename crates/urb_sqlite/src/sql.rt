@@ -1,10 +1,15 @@
 //! The SQL statements of a journal, each in a call of its own.
 
-ghost use Rattle.std.specs.Prelude.{◌≡◌, ◌+◌, ◌≤◌, [], IsTrue, OnErr, OnOk, false, length};
+ghost use Rattle.std.specs.Prelude.{◌≡◌, ◌+◌, ◌∷◌, ◌≤◌, [], IsTrue, OnErr, OnOk, false, length};
+ghost use Rattle.std.specs.Prelude.{pos};
+ghost use Rattle.sqlite.specs.declared.types.Value.TheVariants.{Int};
 ghost use Rattle.sqlite.specs.State.{HasCleanDisk, Executes, ExecutesInside, Survives, CommitsBy};
 ghost use Rattle.sqlite.specs.Held.{state};
-ghost use Rattle.urb_sqlite.specs.internal.JournalStatements.{create_of, insert_text, select_of};
-ghost use Rattle.urb_sqlite.specs.internal.TransactionChanges.{FillsTo, IsFilled, IsUndone};
+ghost use Rattle.urb_sqlite.specs.internal.JournalStatements.{create_of, delete_text};
+ghost use Rattle.urb_sqlite.specs.internal.JournalStatements.{insert_text, select_of};
+ghost use Rattle.urb_sqlite.specs.internal.TransactionChanges.{EmptiesTo, FillsTo, IsEmptied};
+ghost use Rattle.urb_sqlite.specs.internal.TransactionChanges.{IsFilled, IsUndone};
+ghost use Rattle.urb_sqlite.specs.internal.TableReferences.{RefersToNone};
 ghost use Rattle.urb_sqlite.specs.RecordRows.{columns_of, row_of};
 
 use crate::rows::Columns;
@@ -210,6 +215,45 @@ pub fn insert_all<S: Alter>(
         at += 1;
     }
     tx.commit()?;
+    Ok(())
+}
+
+// Takes out the rows from this place on, inside a transaction.
+fn delete_inside<S: Alter>(tx: &mut Transaction<'_, S>, first: u32) -> Result<usize, Error>
+    ensures same_reference { tx.new.conn.ghost_name ≡ tx.old.conn.ghost_name }
+    ensures runs { HasCleanDisk (state S.Store tx.new.conn.now)
+        → IsTrue (state S.Store tx.old.conn.now).in_transaction
+        → ExecutesInside 0 delete_text (Int (pos first) ∷ []) (state S.Store tx.old.conn.now)
+        (state S.Store tx.new.conn.now) result }
+    ensures survives { Survives (state S.Store tx.old.conn.now) (state S.Store tx.new.conn.now)
+        (λ _. ⊥) }
+{
+    tx.execute("DELETE FROM journal2 WHERE pos >= ?1", params![first])
+}
+
+/// Takes out the rows from this place on in one transaction, which one commit ends. After an error
+/// all rows are still there. It is an error if the rows aren't as many as `count`.
+pub fn delete_from<S: Alter>(
+    conn: &mut Connection<S>,
+    first: u32,
+    count: usize,
+) -> Result<(), Error>
+    requires auto { conn.old.in_transaction ≡ false }
+    requires apart { RefersToNone (state S.Store conn.old).now.schema }
+    ensures ok { HasCleanDisk (state S.Store conn.new)
+        → OnOk result (IsEmptied (state S.Store conn.old) (state S.Store conn.new) first count) }
+    ensures err { HasCleanDisk (state S.Store conn.new)
+        → OnErr result (IsUndone (state S.Store conn.old) (state S.Store conn.new)) }
+    ensures survives { Survives (state S.Store conn.old) (state S.Store conn.new)
+        (EmptiesTo (state S.Store conn.old) first count) }
+{
+    let mut change = conn.transaction();
+    let gone = delete_inside(&mut change, first)?;
+    if gone != count {
+        // The older table has some of these records. Nothing is committed.
+        return Err(Error::QueryReturnedNoRows);
+    }
+    change.commit()?;
     Ok(())
 }
 

@@ -1,8 +1,9 @@
 //! Whether a database has a table of records under a name. A table of another kind or a view
 //! doesn't count.
 
-ghost use Rattle.std.specs.Prelude.{◌≡◌};
+ghost use Rattle.std.specs.Prelude.{◌≡◌, ◌↔◌, IsTrue};
 ghost use Rattle.urb_sqlite.specs.TableShapes as shape;
+ghost use Rattle.urb_sqlite.specs.internal.TableReferences.{RefersToNone};
 
 use sqlite_schema::schema::{Column, Kind, Schema, Table};
 use sqlite_value::keys::Collation;
@@ -136,4 +137,15 @@ pub fn has_table(schema: &Schema, name: &[u8]) -> bool
         },
         None => false,
     }
+}
+
+/// Whether no table refers to another one by a foreign key.
+pub fn is_apart(schema: &Schema) -> bool
+    ensures { IsTrue result ↔ RefersToNone schema.now }
+{
+    schema
+        .tables
+        .as_slice()
+        .iter()
+        .all(|table| table.references.len() == 0)
 }

@@ -9,7 +9,7 @@
 -- JoinedRecords, KeptRules, OwnRules, RisingRecords, and the file of `delivers`. Then read the
 -- search: FirstMisfits, the file of `count-images`, and the last four of the list below, on the
 -- index. Contents and the file of `whole` are about what one store holds. RecordsAhead,
--- AheadStores and AheadTails are about a store that holds records ahead.
+-- AheadStores, AheadTails and AheadReplacements are about a store that holds records ahead.
 mod Common
 pub mod AppendedElements
 pub mod ClaimedRecords
@@ -29,3 +29,5 @@ mod ReadImages
 mod QueuedRecords
 mod AheadStores
 mod AheadTails
+mod AheadReplacements
+mod ShortenedLists

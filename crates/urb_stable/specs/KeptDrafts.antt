@@ -16,7 +16,8 @@ module _ {S A : Type 0} (g : Ghosts S A) where
   -- record. The fault is Place exactly if the store is out of place, and then nothing changes. The
   -- next position of an honest store is the one after its certain records. A stop during the call
   -- leaves what the store may have held, or its certain records followed by this one. A stop after
-  -- the call leaves what the store may hold. If records are ahead, only the first one is stored.
+  -- the call leaves what the store may hold. If records are ahead, the first one is stored, or they
+  -- are taken out for another one.
   pub record Keeps (before : S) (draft : Placed) (answer : Result (Unit {0}) StoreFault)
       (after : S) : Type 0 where
     pub answers : g.stores before draft.pos draft.entry answer
@@ -36,7 +37,7 @@ module _ {S A : Type 0} (g : Ghosts S A) where
     pub trust : KeepsTrust (g.is_clean before) (g.is_honest before) (g.is_clean after)
         (g.is_honest after) (g.is_shut after) answer
     pub ahead : TakesAhead (g.ahead before) (g.base before) (g.ahead after) (g.base after)
-        (g.is_shut after) draft.entry answer
+        (g.doubt after) draft.entry answer
 
   -- The store was asked to keep these records together, the first at this position, and gave this
   -- answer, as a store promises. The fault is Place exactly if they are out of place, and then
@@ -67,4 +68,4 @@ module _ {S A : Type 0} (g : Ghosts S A) where
     pub trust : KeepsTrust (g.is_clean before) (g.is_honest before) (g.is_clean after)
         (g.is_honest after) (g.is_shut after) answer
     pub ahead : SparesAhead (g.ahead before) (g.base before) (g.ahead after) (g.base after)
-        (g.is_shut after) entries answer
+        entries answer

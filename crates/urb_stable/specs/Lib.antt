@@ -5,6 +5,7 @@ pub mod PlacedRecords
 pub mod Doubts
 pub mod StableStorage
 pub mod StoredTogether
+pub mod WithdrawnRecords
 pub mod RecordsAhead
 pub mod KeptTails
 pub mod StoreAnswers

@@ -3,6 +3,7 @@ pub mod MemoryInvariant
 pub mod BatchInvariant
 pub mod RecordQueues
 pub mod AheadCalls
+pub mod TakenOut
 pub mod BrokenRules
 pub mod Indexes
 pub mod EarlierRecords

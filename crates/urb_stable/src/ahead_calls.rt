@@ -1,14 +1,37 @@
 //! What a store does with a call while records are ahead.
 ghost use Rattle.std.specs.Prelude.{◌≡◌, ◌<◌, List, false, length, true};
-ghost use Rattle.urb_stable.specs.AheadStores.{ghosts_over, needs_retrieve, next_place};
+ghost use Rattle.urb_stable.specs.AheadStores.{fault_after, ghosts_over, needs_retrieve, next_place};
 ghost use Rattle.urb_stable.specs.Entries.{Entry};
 ghost use Rattle.urb_stable.specs.KeptDrafts.{Keeps, KeepsAll};
 ghost use Rattle.urb_stable.specs.KeptTails.{KeepsTail};
-ghost use Rattle.urb_stable.specs.StableStorage.{is_out_of_place};
+ghost use Rattle.urb_stable.specs.StableStorage.{is_out_of_place, is_place};
 ghost use Rattle.urb_stable.specs.StoredTogether.{is_misplaced};
+ghost use Rattle.urb_stable.specs.internal.AheadCalls.{failures_after};
 
 use crate::{AheadStore, Record, Stable, StoreFault};
 use urb_names::Message;
+
+// Whether a call was out of place.
+pub(crate) fn is_place(fault: &StoreFault) -> bool
+    ensures { result ≡ is_place fault.now }
+{
+    match fault {
+        StoreFault::Place(_) => true,
+        _ => false,
+    }
+}
+
+// Counts a failure, if one more can be counted. Returns the fault that says so.
+pub(crate) fn count_failure(failures: &mut u64) -> StoreFault
+    ensures fault { result ≡ fault_after failures.old }
+    ensures count { failures.new ≡ failures_after failures.old }
+{
+    if *failures == u64::MAX {
+        return StoreFault::NoMemory;
+    }
+    *failures += 1;
+    StoreFault::Device
+}
 
 impl<S: Stable> AheadStore<S> {
     // Whether a store at this position is out of place.
@@ -56,8 +79,7 @@ impl<S: Stable> AheadStore<S> {
         if self.is_out(pos) {
             return Err(StoreFault::Place(next));
         }
-        self.spend();
-        Err(StoreFault::Device)
+        Err(self.spend())
     }
 
     // Stores a record if some are ahead.
@@ -80,8 +102,7 @@ impl<S: Stable> AheadStore<S> {
             self.take_first();
             return Ok(());
         }
-        self.spend();
-        Err(StoreFault::Device)
+        self.replace_ahead(pos, entry)
     }
 
     // Stores no records together if some are ahead.
@@ -101,7 +122,6 @@ impl<S: Stable> AheadStore<S> {
         if entries.is_empty() {
             return Ok(());
         }
-        self.spend();
-        Err(StoreFault::Device)
+        Err(self.spend())
     }
 }

@@ -1,14 +1,17 @@
 //! A store that holds records ahead, over another store.
-ghost use Rattle.std.specs.Prelude.{◌≡◌, ◌<◌, ◌||◌, List, MatchBool, Option, Some, false, length};
+ghost use Rattle.std.specs.Prelude.{◌≡◌, ◌<◌, List, MatchBool, Option, Some, false, length};
 ghost use Rattle.std.specs.Prelude.{None, slice_get, true};
-ghost use Rattle.urb_stable.specs.AheadStores.{IsSound, LeavesInside, fresh, ghosts_over, is_over};
+ghost use Rattle.urb_stable.specs.AheadStores.{IsSound, LeavesInside, fault_after, fresh, ghosts_over};
+ghost use Rattle.urb_stable.specs.AheadStores.{needs_retrieve, next_place};
 ghost use Rattle.urb_stable.specs.Entries.{Entry};
 ghost use Rattle.urb_stable.specs.KeptDrafts.{Keeps, KeepsAll};
 ghost use Rattle.urb_stable.specs.KeptTails.{KeepsTail};
 ghost use Rattle.urb_stable.specs.RetrievedRecords.{Gives};
-ghost use Rattle.urb_stable.specs.StableStorage.{IsContents, is_place, list_in};
-ghost use Rattle.urb_stable.specs.internal.AheadCalls.{once_spent, once_taken_ahead};
+ghost use Rattle.urb_stable.specs.StableStorage.{IsContents, is_out_of_place, list_in};
+ghost use Rattle.urb_stable.specs.internal.AheadCalls.{IsCountedOver, once_spent};
+ghost use Rattle.urb_stable.specs.internal.AheadCalls.{once_taken_ahead};
 
+use crate::ahead_calls::{count_failure, is_place};
 use crate::record_queue::RecordQueue;
 use crate::{Record, Stable, StoreFault};
 use std::marker::Model;
@@ -19,12 +22,13 @@ use urb_names::Message;
 /// A store over another one, which may hold records ahead. `store_ahead` keeps several records by one
 /// call of the inner store, and so by one sync. After that, each `store` of the first record ahead is
 /// answered `Ok` without a call of the inner store. If another record is to be stored in its place,
-/// the store is spent: it is shut, and only a new opening of the inner store gives records again.
-/// Nothing that was stored is lost.
+/// the inner store takes those ahead out again (`withdraw`), and stores that record. If it can't, the
+/// call fails, and a `retrieve` must come first. The next `store` of another record tries again.
 ///
 /// If the inner store fails to keep the records, the store is failing, which nobody needs to know
-/// yet. The next record that is to be stored finds out, and then the store is spent too. A new
-/// opening of the inner store gives all of those records, or none.
+/// yet. The next `store` finds out, and fails. After that a `retrieve` gives the records from before,
+/// and none are ahead. But if the failure has shut the inner store, only a new opening gives records
+/// again: all of those that were to be ahead, or none.
 #[derive(Drop)]
 pub struct AheadStore<S: Stable> {
     store: S,
@@ -34,7 +38,7 @@ pub struct AheadStore<S: Stable> {
     // Whether it failed to keep them.
     failing: bool,
     spent: bool,
-    // How often this store has failed, besides the inner one.
+    // How often this store itself has failed.
     failures: u64,
 }
 
@@ -63,16 +67,6 @@ impl<S: Stable> Model for AheadStore<S> {
       spent = a.spent;
       failures = a.failures;
     }) };
-}
-
-// Whether a call was out of place.
-fn is_place(fault: &StoreFault) -> bool
-    ensures { result ≡ is_place fault.now }
-{
-    match fault {
-        StoreFault::Place(_) => true,
-        _ => false,
-    }
 }
 
 // Keeps these records together, at the next position of the store.
@@ -144,13 +138,6 @@ impl<S: Stable> AheadStore<S> {
         self.failing
     }
 
-    // Whether this store gives none of the records ahead any more.
-    fn is_over(&self) -> bool
-        ensures { result ≡ is_over self.now }
-    {
-        self.failing || self.spent
-    }
-
     // Keeps these records by one call of the inner store, if none are ahead.
     fn hold(&mut self, entries: Vec<Record<Message<S::Alloc>>, S::Alloc>) -> Result<(), StoreFault>
         requires { length self.old.ahead ≡ 0 }
@@ -193,15 +180,45 @@ impl<S: Stable> AheadStore<S> {
         self.queue.take_first();
     }
 
-    // Gives no more records: another one was to be stored in place of the first one ahead. Or the
-    // inner store failed to keep those ahead.
-    pub(crate) fn spend(&mut self)
-        requires some { 0 < length self.old.ahead }
-        requires unspent { self.old.spent ≡ false }
-        ensures { self.new ≡ once_spent self.old }
+    // Stores no more records before a retrieve. Returns the fault that says so.
+    pub(crate) fn spend(&mut self) -> StoreFault
+        requires { 0 < length self.old.ahead }
+        ensures fault { result ≡ fault_after self.old.failures }
+        ensures spent { self.new ≡ once_spent self.old }
     {
         self.spent = true;
-        self.failures += 1;
+        count_failure(&mut self.failures)
+    }
+
+    // Has the inner store take the records ahead out, and stores another one. If it can't take them
+    // out, a retrieve must come first.
+    pub(crate) fn replace_ahead(
+        &mut self,
+        pos: u32,
+        entry: &Record<Message<S::Alloc>>,
+    ) -> Result<(), StoreFault>
+        requires some { 0 < length self.old.ahead }
+        requires held { self.old.failing ≡ false }
+        requires placed { is_out_of_place (needs_retrieve S.Stable self.old)
+            (next_place S.Stable self.old) pos ≡ false }
+        requires counted { IsCountedOver S.Stable self.old }
+        requires another { ¬ (slice_get self.old.ahead 0 ≡ Some entry.now) }
+        ensures { Keeps (ghosts_over S.Stable) self.old
+            (record { node = 0; pos = pos; entry = entry.now }) result self.new }
+    {
+        let left = self.queue.left();
+        match self.store.withdraw(left) {
+            Ok(()) => {
+                self.queue.drop_left();
+                // For its clause about the next position of an honest store.
+                let _next = self.store.next();
+                self.store.store(pos, entry)
+            }
+            Err(_) => {
+                self.spent = true;
+                Err(count_failure(&mut self.failures))
+            }
+        }
     }
 
     // Stores a record if none are ahead.
@@ -250,7 +267,7 @@ impl<S: Stable> AheadStore<S> {
         alloc: S::Alloc,
     ) -> Result<Vec<Record<Message<S::Alloc>>, S::Alloc>, StoreFault>
         requires some { 0 < length self.old.ahead }
-        requires held { is_over self.old ≡ false }
+        requires held { self.old.failing ≡ false }
         ensures { Gives (ghosts_over S.Stable) self.old (list_in result) self.new }
     {
         let left = self.queue.left();
@@ -258,21 +275,31 @@ impl<S: Stable> AheadStore<S> {
             Ok(whole) => whole,
             Err(fault) => return Err(fault),
         };
+        self.spent = false;
         records.truncate(records.len().saturating_sub(left));
         Ok(records)
     }
 
-    // Retrieves no records once the store is failing or spent.
-    fn refuse_retrieve(&mut self) -> Result<Vec<Record<Message<S::Alloc>>, S::Alloc>, StoreFault>
+    // Retrieves the records once the inner store has failed to keep those ahead. After that, none
+    // are ahead.
+    fn retrieve_failed(
+        &mut self,
+        alloc: S::Alloc,
+    ) -> Result<Vec<Record<Message<S::Alloc>>, S::Alloc>, StoreFault>
         requires some { 0 < length self.old.ahead }
-        requires over { is_over self.old ≡ true }
+        requires failing { self.old.failing ≡ true }
         ensures { Gives (ghosts_over S.Stable) self.old (list_in result) self.new }
     {
-        if u64::MAX - 1 <= self.failures {
-            return Err(StoreFault::NoMemory);
-        }
-        self.failures += 1;
-        Err(StoreFault::Device)
+        // For its clause that an honest store is clean.
+        let _next = self.store.next();
+        let records = match self.store.retrieve(alloc) {
+            Ok(whole) => whole,
+            Err(fault) => return Err(fault),
+        };
+        self.queue.drop_left();
+        self.failing = false;
+        self.spent = false;
+        Ok(records)
     }
 }
 
@@ -304,6 +331,8 @@ impl<S: Stable> Stable for AheadStore<S> {
     ghost ahead = { λ s. (ghosts_over S.Stable).ahead s };
 
     ghost base = { λ s. (ghosts_over S.Stable).base s };
+
+    ghost can_hold = { λ s. (ghosts_over S.Stable).can_hold s };
 
     fn next(&self) -> u32 {
         if self.failing {
@@ -348,8 +377,8 @@ impl<S: Stable> Stable for AheadStore<S> {
     ) -> Result<Vec<Record<Message<S::Alloc>>, S::Alloc>, StoreFault> {
         if self.left() == 0 {
             self.retrieve_inside(alloc)
-        } else if self.is_over() {
-            self.refuse_retrieve()
+        } else if self.is_failing() {
+            self.retrieve_failed(alloc)
         } else {
             self.retrieve_less(alloc)
         }

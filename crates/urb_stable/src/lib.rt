@@ -34,7 +34,8 @@
 //! ```
 //!
 //! `Stable` is the contract of every storage. `MemStable` is a storage in memory, which can be
-//! armed to fail. Nothing here removes or changes a stored record.
+//! armed to fail. Nothing changes a stored record. Only `Stable::withdraw` removes records: those
+//! that an `AheadStore` holds ahead, if its node drafts another one. No client knows of them.
 #![tactic(auto)]
 
 mod ahead_calls;

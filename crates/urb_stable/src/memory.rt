@@ -1,8 +1,10 @@
 //! A store in memory.
 ghost use Rattle.std.specs.Prelude.{◌≡◌, ◌+◌, List, [], ◌∷◌, ◌++◌, false, length, IsTrue, OnOk};
-ghost use Rattle.std.specs.Prelude.{OnErr, IfOk, IfErr, Ok};
+ghost use Rattle.std.specs.Prelude.{None, OnErr, IfOk, IfErr, Ok, nat_lt, true, ◌||◌};
 ghost use Rattle.urb_stable.specs.MemoryStores.{empty_memory, armed_with, Retrieves, Stores};
-ghost use Rattle.urb_stable.specs.internal.MemoryCalls.{StoresInMemory, StoresAllInMemory, retrieved};
+ghost use Rattle.urb_stable.specs.internal.MemoryCalls.{StoresInMemory, StoresAllInMemory};
+ghost use Rattle.urb_stable.specs.internal.MemoryCalls.{WithdrawsInMemory, retrieved};
+ghost use Rattle.urb_stable.specs.WithdrawnRecords.{AreWithdrawn, IsUnlessPlace, KeepsDoubt};
 ghost use Rattle.urb_stable.specs.Entries.{Entry};
 ghost use Rattle.urb_stable.specs.StableStorage.{IsContents, IsContentsOr, is_out_of_place, is_place};
 ghost use Rattle.urb_stable.specs.StableStorage.{is_bad_row, IsPlaced, IsAppended, LeavesDoubt};
@@ -16,7 +18,8 @@ use std::marker::Model;
 use urb_names::{Message, NoMemory};
 
 /// How a call of `store` fails in memory, if a test or a script has armed it. An armed call of
-/// `store_all` returns `Device` and keeps none of its records, with either failure.
+/// `store_all` returns `Device` and keeps none of its records, with either failure. An armed call of
+/// `withdraw` returns `Device` and takes no record out.
 #[derive(Clone, Copy, Debug, PartialEq, Eq)]
 pub enum Failure {
     /// The call returns `Device`, and the records stay as they were.
@@ -156,6 +159,8 @@ impl<A: Allocator + Copy> Stable for MemStable<A> {
 
     ghost base = { λ _. [] };
 
+    ghost can_hold = { λ _ _. false };
+
     fn next(&self) -> u32 {
         self.certain + 1
     }
@@ -282,5 +287,44 @@ impl<A: Allocator + Copy> Stable for MemStable<A> {
         self.certain = self.records.len() as u32;
         self.doubtful = false;
         Ok(records)
+    }
+
+    fn store_ahead(&mut self, _records: &mut Vec<Record<Message<A>>, A>) -> Result<(), StoreFault> {
+        Err(StoreFault::Place(self.next()))
+    }
+
+    fn withdraw(&mut self, count: usize) -> Result<(), StoreFault>
+        // The promises of every store.
+        ensures same { IfErr result (λ e. is_place e ≡ true → self.new ≡ self.old) }
+        ensures withdrawn { AreWithdrawn self.old.certain self.new.certain count result }
+        ensures moved { MovesPlace (length self.new.certain + 1) (length self.old.certain + 1) count
+            result }
+        ensures doubted { KeepsDoubt self.old.doubtful self.old.doubt self.new.doubtful
+            self.new.doubt }
+        ensures settled { IsUnlessPlace result (self.old.doubt ≡ None) }
+        ensures counts { CountsFailures self.old.failures self.new.failures result }
+
+        // It is refused with `Place` exactly if a retrieve must come first, or there are fewer
+        // records. The exact result and effect if there are as many.
+        ensures refused { IsPlaced (self.old.doubtful || nat_lt (length self.old.certain) count)
+            (length self.old.certain + 1) result }
+        ensures exact { (self.old.doubtful || nat_lt (length self.old.certain) count) ≡ false
+            → WithdrawsInMemory self.old count result self.new }
+    {
+        let next = self.next();
+        if self.doubtful || self.records.len() < count {
+            return Err(StoreFault::Place(next));
+        }
+        if let Some(_) = self.armed.take() {
+            if self.failures == u64::MAX {
+                return Err(StoreFault::NoMemory);
+            }
+            self.failures += 1;
+            return Err(StoreFault::Device);
+        }
+        let kept = self.records.len() - count;
+        self.records.truncate(kept);
+        self.certain = kept as u32;
+        Ok(())
     }
 }

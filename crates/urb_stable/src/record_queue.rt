@@ -62,4 +62,11 @@ impl<A: Allocator> RecordQueue<A> {
     {
         self.taken += 1;
     }
+
+    /// Drops all records that are left.
+    pub(crate) fn drop_left(&mut self)
+        ensures { self.new ≡ record { taken = self.old.taken; left = [] } }
+    {
+        self.records.truncate(self.taken);
+    }
 }

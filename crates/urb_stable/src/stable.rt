@@ -1,17 +1,19 @@
 //! Stable storage: the contract of every store.
-ghost use Rattle.std.specs.Prelude.{◌≡◌, ◌+◌, List, [], ℕ, Bool, false, Option, None, Result, Ok, length};
-ghost use Rattle.std.specs.Prelude.{IsTrue};
+ghost use Rattle.std.specs.Prelude.{◌≡◌, ◌⊎◌, ◌+◌, List, [], ℕ, Bool, true, false, Option, None, Result};
+ghost use Rattle.std.specs.Prelude.{IfErr, IsTrue, Ok, length};
 ghost use Rattle.urb_stable.specs.Entries.{Entry};
 ghost use Rattle.urb_stable.specs.declared.stable.StoreFault.{StoreFault as Fault};
 ghost use Rattle.urb_stable.specs.StableStorage.{refusal_of, is_out_of_place, IsContents, IsContentsOr};
 ghost use Rattle.urb_stable.specs.StableStorage.{IsPlaced, IsAppended, LeavesDoubt, CountsFailures};
 ghost use Rattle.urb_stable.specs.StableStorage.{KeepsTrust, list_in, IsRetrieved, SettlesDoubt};
-ghost use Rattle.urb_stable.specs.StableStorage.{IsAllowedFault, StaysShut};
+ghost use Rattle.urb_stable.specs.StableStorage.{IsAllowedFault, StaysShut, is_place};
 ghost use Rattle.urb_stable.specs.StoredTogether.{is_misplaced, AreAppended, LeavesNoRecord};
 ghost use Rattle.urb_stable.specs.StoredTogether.{MovesPlace, IsContentsOrAll, LeavesNoMore};
 ghost use Rattle.urb_stable.specs.StoredTogether.{StoresNothing};
-ghost use Rattle.urb_stable.specs.RecordsAhead.{HoldsAhead, KeepsAhead, MayHoldAhead, SparesAhead};
-ghost use Rattle.urb_stable.specs.RecordsAhead.{StandsStill, StaysTrusted, TakesAhead};
+ghost use Rattle.urb_stable.specs.RecordsAhead.{HoldsAhead, IsHoldRefused, KeepsAhead, KeepsOrDrops};
+ghost use Rattle.urb_stable.specs.RecordsAhead.{MayHoldAhead, SparesAhead, StandsStill, StaysTrusted};
+ghost use Rattle.urb_stable.specs.RecordsAhead.{TakesAhead};
+ghost use Rattle.urb_stable.specs.WithdrawnRecords.{IsUnlessPlace, KeepsDoubt, Withdraws};
 
 use crate::Record;
 use std::alloc::{AllocError, AllocFailed, Allocator};
@@ -130,12 +132,17 @@ pub trait Stable {
     /// The records that those ahead follow. If none are ahead, it may be any list.
     ghost base: { Self → List Entry };
 
+    /// Whether the storage can hold these records ahead now.
+    ghost can_hold: { Self → List Entry → Bool };
+
     /// The position of the next record, from 1.
     fn next(&self) -> u32
         ensures value { result ≡ place self.now }
         ensures counted { is_honest self.now → result ≡ length (certain self.now) + 1 }
         // A record is in doubt only if a retrieve must come first.
-        ensures sure { is_doubtful self.now ≡ false → doubt self.now ≡ None };
+        ensures sure { is_doubtful self.now ≡ false → doubt self.now ≡ None }
+        // A storage is honest only while it is clean.
+        ensures clean { is_honest self.now → is_clean self.now };
 
     /// Whether a record may follow the certain ones, so that nothing more is stored before a
     /// `retrieve`.
@@ -169,9 +176,9 @@ pub trait Stable {
         // as clean again. A clean storage that was honest stays honest or is shut.
         ensures trust { KeepsTrust (is_clean self.old) (is_honest self.old) (is_clean self.new)
             (is_honest self.new) (is_shut self.new) result }
-        // If records are ahead, only the first of them is stored.
+        // If records are ahead, the first of them is stored, or they are taken out for another one.
         ensures ahead { TakesAhead (ahead self.old) (base self.old) (ahead self.new) (base self.new)
-            (is_shut self.new) entry.now result };
+            (doubt self.new) entry.now result };
 
     /// Appends all these records to the others, the first at this position, or none of them. After
     /// `Place` nothing has changed: the position isn't the next one, a `retrieve` must come first,
@@ -213,7 +220,7 @@ pub trait Stable {
             (is_honest self.new) (is_shut self.new) result }
         // If records are ahead, no list of records is stored in their place.
         ensures ahead { SparesAhead (ahead self.old) (base self.old) (ahead self.new)
-            (base self.new) (is_shut self.new) entries.now result };
+            (base self.new) entries.now result };
 
     /// Returns all records, which are certain from then on. Records ahead aren't among them. A failed
     /// retrieve changes nothing but the count of failures.
@@ -244,27 +251,29 @@ pub trait Stable {
         // as clean again. A clean storage that was honest stays honest or is shut.
         ensures trust { KeepsTrust (is_clean self.old) (is_honest self.old) (is_clean self.new)
             (is_honest self.new) (is_shut self.new) (list_in result) }
-        // A shut storage returns nothing and stays shut. For any storage, a stop leaves no more
-        // than it did before the call.
+        // A shut storage returns nothing and stays shut. Of a storage that was honest or shut, a
+        // stop leaves no more than it did before the call.
         ensures refuses { StaysShut (is_shut self.old) (is_clean self.new) (is_shut self.new)
             (list_in result) }
-        ensures lasts { is_clean self.new
+        ensures lasts { is_clean self.new → is_honest self.old ⊎ is_shut self.old
             → LeavesNoMore (leaves_only self.old) (leaves_only self.new) }
-        // The records ahead stay.
-        ensures ahead { KeepsAhead (ahead self.old) (base self.old) (ahead self.new)
+        // The records ahead stay, or the store drops all of them.
+        ensures ahead { KeepsOrDrops (ahead self.old) (base self.old) (ahead self.new)
             (base self.new) };
 
     /// Holds these records ahead, behind those that it has given out, before their node drafts them.
     /// The storage keeps all of them by one call, or none. Each later `store` of the first one ahead
     /// gives it out. Unless the answer is `Place`, it takes the records out of the list.
     ///
-    /// `Place`: the store holds no records ahead, or can't hold these now, and nothing has changed.
-    /// After any other fault the next `store` fails, and a later opening finds none of the records
-    /// or all of them.
+    /// `Place`: the storage can't hold these records ahead now, and nothing has changed. After any
+    /// other fault the next `store` fails. Then a `retrieve` finds none of the records. But if the
+    /// failure has shut the storage, only a later opening can tell: it finds none or all.
     fn store_ahead(
         &mut self,
-        _records: &mut Vec<Record<Message<Self::Alloc>>, Self::Alloc>,
+        records: &mut Vec<Record<Message<Self::Alloc>>, Self::Alloc>,
     ) -> Result<(), StoreFault>
+        // It is refused with `Place` exactly if the storage can't hold these records now.
+        ensures placed { IsHoldRefused (can_hold self.old records.old.items) result }
         // What the storage has given out is as before.
         ensures still { StandsStill (place self.old) (is_doubtful self.old) (doubt self.old)
             (place self.new) (is_doubtful self.new) (doubt self.new) }
@@ -277,10 +286,37 @@ pub trait Stable {
         // After `Place` nothing has changed. Else the records are ahead, and a stop leaves no more
         // than before, or all of them too.
         ensures holds { MayHoldAhead self.old self.new
-            (HoldsAhead _records.old.items (ahead self.new) (certain self.old) (base self.new)
+            (HoldsAhead records.old.items (ahead self.new) (certain self.old) (base self.new)
             (is_honest self.old) (is_honest self.new
             → leaves_only self.new (IsContents (certain self.new) (doubt self.new))))
-            result }
+            result };
+
+    /// Takes the last `count` records out of the list again: all of them or none. They were stored
+    /// together by one `store_all`, and no client knows of them.
+    ///
+    /// `Place`: the storage can't take records out, a `retrieve` must come first, or the list has
+    /// fewer records. Nothing has changed. After any other fault the records are still there. But if
+    /// the failure has shut the storage, only a later opening can tell: it finds all or none.
+    fn withdraw(&mut self, _count: usize) -> Result<(), StoreFault>
+        // After `Place` nothing has changed.
+        ensures same { IfErr result (λ e. is_place e ≡ true → self.new ≡ self.old) }
+        // After `Ok` the records before them are certain. A stop, even during this call, leaves
+        // those, or the withdrawn records too.
+        ensures withdraws { IsUnlessPlace result (Withdraws (certain self.old) (certain self.new)
+            (doubt self.new) _count result (is_honest self.old) (is_clean self.new)
+            (is_honest self.new) (leaves_only self.new)) }
+        ensures moved { MovesPlace (place self.new) (place self.old) _count result }
+        ensures doubted { KeepsDoubt (is_doubtful self.old) (doubt self.old) (is_doubtful self.new)
+            (doubt self.new) }
+        // `Device` comes only if the count of failures rose.
+        ensures counts { CountsFailures (failures self.old) (failures self.new) result }
+        // If the storage has ever returned something other than what was written, it never counts
+        // as clean again. A clean storage that was honest stays honest or is shut.
+        ensures trust { KeepsTrust (is_clean self.old) (is_honest self.old) (is_clean self.new)
+            (is_honest self.new) (is_shut self.new) result }
+        // Records ahead stay.
+        ensures ahead { KeepsAhead (ahead self.old) (base self.old) (ahead self.new)
+            (base self.new) }
     {
         Err(StoreFault::Place(self.next()))
     }

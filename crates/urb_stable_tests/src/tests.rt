@@ -1,6 +1,7 @@
 //! Calls on a store in memory, with and without failures, and refused allocations.
 
 mod ahead;
+mod ahead_growth;
 mod batches;
 mod calls;
 mod fitting;

@@ -10,7 +10,7 @@ use Rattle.std.specs.Prelude.{MatchResult, OnOk}
 use Rattle.urb_node.specs.Replies.{Reply}
 use Rattle.urb_stable.proofs.KeptRules.{Grows}
 use Rattle.urb_stable.specs.Records.{pend}
-use Rattle.urb_stable.specs.RecordsAhead.{IsTaken, TakesAhead}
+use Rattle.urb_stable.specs.RecordsAhead.{IsTaken, KeepsAhead, KeepsOrDrops, TakesAhead}
 use Rattle.urb_stable.specs.StableStorage.{IsAppended, IsContents, IsPlaced, IsRetrieved}
 use Rattle.urb_stable.specs.StableStorage.{LeavesDoubt, is_out_of_place, is_place}
 use Rattle.urb_turn.proofs.LastingStores.{honest-up}
@@ -194,7 +194,7 @@ module _ {S A : Type 0} (g : Ghosts S A) where
               IsAppended (g.certain before) (g.certain after) draft.entry a) h.ok
               (keeps.appended honest)).stored))
 
-      -- it was given another record, and is shut
+      -- it was given another record, and fails
       another : (a : Result (Unit {0}) StoreFault)
           → IsAppended (g.certain before) (g.certain after) draft.entry a
           → MatchResult a (λ _. ⊥) (λ e. is_place e ≡ false) → g.certain after ≡ g.certain before
@@ -212,18 +212,19 @@ module _ {S A : Type 0} (g : Ghosts S A) where
 
       some : (head : Entry) (rest : List Entry) → g.ahead before ≡ head ∷ rest
           → TakesAhead (head ∷ rest) (g.base before) (g.ahead after) (g.base after)
-          (g.is_shut after) draft.entry answer
-          → HasTail g w n after
-      some head rest was (inl h) = taken head rest was h
-      some head rest was (inr (inl h)) =
-          tail-still h.keeps.base (h.keeps.ahead ∙ sym was)
+          (g.doubt after) draft.entry answer
+          → MayHaveTail g w n after
+      some head rest was (inl h) = inr (taken head rest was h)
+      some head rest was (inr (inl h)) = inl h.ahead
+      some head rest was (inr (inr (inl h))) =
+          inr (tail-still h.keeps.base (h.keeps.ahead ∙ sym was)
           (λ honest. h.keeps.base ∙ (t.based (keeps.trust.honest honest)
           ∙ sym (another answer (keeps.appended honest) h.fails)))
-          (inr h.shut) t
-      some head rest was (inr (inr h)) =
-          subst (λ (s : S). HasTail g w n s)
+          (inl h.sure) t)
+      some head rest was (inr (inr (inr h))) =
+          inr (subst (λ (s : S). HasTail g w n s)
           (sym (missed answer (is_out_of_place (g.is_doubtful before) (g.place before) draft.pos)
-          refl keeps.placed h.fails)) t
+          refl keeps.placed h.fails)) t)
 
     -- the tail stays one when the store keeps a draft, and also when it fails
     pub tail-kept : (draft : Placed) (answer : Result (Unit {0}) StoreFault)
@@ -234,14 +235,14 @@ module _ {S A : Type 0} (g : Ghosts S A) where
       where
         Takes : List Entry → Type 0
         Takes was =
-            TakesAhead was (g.base before) (g.ahead after) (g.base after) (g.is_shut after)
+            TakesAhead was (g.base before) (g.ahead after) (g.base after) (g.doubt after)
             draft.entry answer
 
         at : (was : List Entry) → g.ahead before ≡ was → Takes was → MayHaveTail g w n before
             → MayHaveTail g w n after
         at [] e takes t = inl takes
         at (head ∷ rest) e takes (inl none) = absurd (cc (e, none))
-        at (head ∷ rest) e takes (inr t) = inr (some draft answer keeps t head rest e takes)
+        at (head ∷ rest) e takes (inr t) = some draft answer keeps t head rest e takes
 
     -- ---- it was asked for its records
 
@@ -264,9 +265,7 @@ module _ {S A : Type 0} (g : Ghosts S A) where
     -- the tail stays one when the store gives its records, and also when it fails
     pub tail-given : (answer : Result (List Entry) StoreFault) → Gives g before answer after
         → WouldHaveTail g w n before → WouldHaveTail g w n after
-    tail-given answer gives h clean =
-        ⊎_elim (λ none. inl (gives.ahead.ahead ∙ none)) (λ t. inr (still t))
-        (h (gives.trust.clean clean))
+    tail-given answer gives h clean = at gives.ahead (h (gives.trust.clean clean))
       where
         still_sure : (a : Result (List Entry) StoreFault) → Gives g before a after
             → (g.doubt before ≡ None) ⊎ g.is_shut before
@@ -275,11 +274,18 @@ module _ {S A : Type 0} (g : Ghosts S A) where
         still_sure (Err fault) it (inl none) = inl (it.settled.kept.1 ∙ none)
         still_sure (Err fault) it (inr shut) = inr (it.refuses shut clean).1
 
-        still : HasTail g w n before → HasTail g w n after
-        still t =
-            tail-still gives.ahead.base gives.ahead.ahead
-            (λ honest. gives.ahead.base ∙ (t.based (gives.trust.honest honest)
+        still : KeepsAhead (g.ahead before) (g.base before) (g.ahead after) (g.base after)
+            → HasTail g w n before → HasTail g w n after
+        still same t =
+            tail-still same.base same.ahead
+            (λ honest. same.base ∙ (t.based (gives.trust.honest honest)
             ∙ sym (⊎_elim (λ none. sure-given answer (gives.retrieved honest) none)
             (λ shut. shut-given answer (gives.retrieved honest) (gives.refuses shut clean).0)
             t.sure)))
             (still_sure answer gives t.sure) t
+
+        at : KeepsOrDrops (g.ahead before) (g.base before) (g.ahead after) (g.base after)
+            → MayHaveTail g w n before → MayHaveTail g w n after
+        at (inr none) was = inl none
+        at (inl same) (inl none) = inl (same.ahead ∙ none)
+        at (inl same) (inr t) = inr (still same t)

@@ -150,7 +150,7 @@ module _ {S A : Type 0} (g : Ghosts S A) (opened : GroupView) (start : World) (p
           (λ (rs : List Entry). g.leaves_only new.store (IsContentsOrAll rs new.base None))
           held.ahead h))
 
-      at : LeavesLess (g.leaves_only new.store) new.failing new.base new.ahead
+      at : LeavesLess (g.leaves_only new.store) new.base new.ahead
           (IsContents (given_out (g.certain new.store) new.base new.ahead) (g.doubt new.store))
           → LeavesAllOrNone g (after start past) n batch new.store
       at (inl (none, h)) =
@@ -159,7 +159,8 @@ module _ {S A : Type 0} (g : Ghosts S A) (opened : GroupView) (start : World) (p
           (subst
           (λ (o : Option Entry). g.leaves_only new.store
           (IsContents (given_out (g.certain new.store) new.base new.ahead) o)) no-doubt h))
-      at (inr (h, held)) = inside new.failing h
+      at (inr (inl h, held)) = inside false h
+      at (inr (inr h, held)) = inside true h.1
 
   -- A stop leaves all of the batch or none of it. Or the call was out of place, and the store is as
   -- before.

@@ -5,8 +5,8 @@ use Rattle.urb_turn.proofs.Common.{IsStoreOf, Keeps, LeavesOf, List, MayLeave, N
 use Rattle.urb_turn.proofs.Common.{Placed, Ready, Result, Some, Stays, StoreFault, [], ap, doubt}
 use Rattle.urb_turn.proofs.Common.{false, false≢true, inl, inr, is_down, leaves-draft, leaves-stay}
 use Rattle.urb_turn.proofs.Common.{subst, sym, true, ⊎_elim, ◌++◌, ◌∙◌, ◌∷◌, ◌≡◌}
-use Rattle.urb_group.proofs.stops.SecuredClusters.{lasting-honest, lasting-known, read-honest}
-use Rattle.urb_group.proofs.stops.SecuredClusters.{still-down}
+use Rattle.urb_group.proofs.stops.SecuredClusters.{asked-still, lasting-honest, lasting-known}
+use Rattle.urb_group.proofs.stops.SecuredClusters.{read-honest, still-down}
 use Rattle.urb_group.proofs.stops.StockedClusters.{leaves-held, left-by-draft, lost, rose, took}
 use Rattle.urb_group.proofs.stops.StockedClusters.{unread}
 use Rattle.urb_world.proofs.stops.StockedNodes.{Rises}
@@ -21,22 +21,6 @@ module _ {S A : Type 0} (g : Ghosts S A) where
       → g.is_clean store → g.is_honest store
   honest-up node store h up clean =
       ⊎_elim (λ honest. honest) (λ shut. absurd (false≢true (sym up ∙ shut.1))) (h.known clean)
-
-  -- if the store was asked for its records, a stop leaves no more than before
-  pub asked-still : (node : Node) (before after : S) (answer : Result (List Entry) StoreFault)
-      → Gives g before answer after → IsLasting g node before → g.is_clean after
-      → LeavesOf g node after
-  asked-still node before after answer gives h clean =
-      record {
-        certain = was.certain;
-        doubtful = was.doubtful;
-        only =
-            (gives.lasts clean).contents was.certain was.doubtful was.only;
-        may = was.may;
-      }
-    where
-      was : LeavesOf g node before
-      was = h.left (gives.trust.clean clean)
 
   -- a store lasts while its node has the same records, and the same record held or in doubt
   pub stays : (old new : Node) (store : S) → Stays old new → IsLastingOf g old store
@@ -149,7 +133,7 @@ module _ {S A : Type 0} (g : Ghosts S A) where
   gives-unread node before after fault gives down h = (
     unread g node before after fault gives h.0,
     record {
-      left = asked-still node before after (Err fault) gives h.1;
+      left = asked-still g node before after (Err fault) gives h.1;
       known = λ clean.
           ⊎_elim (λ honest. ⊎_elim (λ still. inl still) (λ shut. inr (shut, down))
           (gives.trust.shut honest clean)) (λ shut. inr ((gives.refuses shut.0 clean).1, down))

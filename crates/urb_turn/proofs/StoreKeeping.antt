@@ -26,7 +26,8 @@ use Rattle.urb_show.proofs.PastEvents.{after_one_more}
 use Rattle.urb_show.specs.Houses.{IsEvent}
 use Rattle.urb_stable.specs.Entries.{name_of}
 use Rattle.urb_stable.specs.StableStorage.{list_in}
-use Rattle.urb_turn.proofs.LastingStores.{asked-still, gives-rose, gives-unread, keeps-late}
+use Rattle.urb_group.proofs.stops.SecuredClusters.{asked-still}
+use Rattle.urb_turn.proofs.LastingStores.{gives-rose, gives-unread, keeps-late}
 use Rattle.urb_turn.proofs.LastingStores.{keeps-lost, keeps-took, left-of-draft, stays}
 use Rattle.urb_turn.proofs.FollowingTails.{tail-given, tail-kept, tail-steps, tail-waits}
 use Rattle.urb_turn.proofs.GrowingPasts.{settled_past}

@@ -6,3 +6,4 @@ pub mod OwnJobs
 pub mod Listenings
 pub mod TicketBatches
 pub mod WorkerExamples
+pub mod ActExamples

@@ -1,5 +1,5 @@
 -- A store in memory, as one of all kinds of stores.
-use Rattle.std.specs.Prelude.{List, [], length, ◌+◌}
+use Rattle.std.specs.Prelude.{List, [], false, length, ◌+◌}
 use Rattle.urb_stable.specs.Entries.{Entry}
 use Rattle.urb_stable.specs.MemoryStores.{Memory, Retrieves, Stores}
 use Rattle.urb_stable.specs.StableStorage.{IsContents}
@@ -21,4 +21,5 @@ in_memory A = record {
   answers = Retrieves;
   ahead = λ s. [];
   base = λ s. [];
+  can_hold = λ s records. false;
 }

@@ -1,7 +1,7 @@
 //! Worked examples of runs over stores that are wrapped, so that they may hold records ahead.
 //!
 //! Each of the rows that end in ⊥ breaks one rule alone.
-ghost use Rattle.std.specs.Prelude.{[], ◌∷◌, ◌-◌, ◌^◌, Err, Ok, false, true};
+ghost use Rattle.std.specs.Prelude.{[], ◌∷◌, ◌^◌, Err, Ok, false, true};
 ghost use Rattle.urb_names.specs.declared.refusal.Refusal.TheVariants.{NoMemory};
 ghost use Rattle.urb_stable.specs.MemoryStores.{empty_memory};
 ghost use Rattle.urb_world.specs.MemoryStores.{in_memory};
@@ -20,6 +20,6 @@ pub fn runs_over_wrapped_stores()
         (record empty_memory { certain = pending 1 2 ∷ pending 1 3 ∷ [] } ∷ []) false (Ok 0)
         (record empty_memory { certain = pending 1 2 ∷ pending 1 3 ∷ [] } ∷ []) → ⊥ }
     ensures that_forgets_failures { RanAhead (in_memory (Unit {0})) (limits 4 10)
-        (record empty_memory { failures = 2 ^ 64 - 1 } ∷ []) false (Err (Unopened NoMemory))
+        (record empty_memory { failures = 2 ^ 64 } ∷ []) false (Err (Unopened NoMemory))
         (empty_memory ∷ []) → ⊥ }
 {}

@@ -51,6 +51,8 @@ impl Stable for Refusing {
 
     ghost base = { λ s. ⟦<MemStable as Stable>⟧.base s.store };
 
+    ghost can_hold = { λ s. ⟦<MemStable as Stable>⟧.can_hold s.store };
+
     fn next(&self) -> u32 {
         self.store.next()
     }
@@ -69,6 +71,10 @@ impl Stable for Refusing {
 
     fn retrieve(&mut self, _alloc: Global) -> Result<Vec<Record>, StoreFault> {
         Err(StoreFault::NoMemory)
+    }
+
+    fn store_ahead(&mut self, records: &mut Vec<Record>) -> Result<(), StoreFault> {
+        self.store.store_ahead(records)
     }
 }
 

@@ -82,7 +82,7 @@ lasting-honest g node store h honest =
     record { left = λ clean. h.left (honest clean); known = λ clean. inl (honest clean) }
 
 -- if the store was asked for its records, a stop leaves no more than before
-asked-still : {S A : Type 0} (g : Ghosts S A) (node : Node) (before after : S)
+pub asked-still : {S A : Type 0} (g : Ghosts S A) (node : Node) (before after : S)
     (answer : Result (List Entry) StoreFault) → Gives g before answer after
     → IsLasting g node before → g.is_clean after → LeavesOf g node after
 asked-still g node before after answer gives h clean =
@@ -90,7 +90,8 @@ asked-still g node before after answer gives h clean =
       certain = was.certain;
       doubtful = was.doubtful;
       only =
-          (gives.lasts clean).contents was.certain was.doubtful was.only;
+          (gives.lasts clean (⊎_elim (λ honest. inl honest) (λ shut. inr shut.0)
+          (h.known (gives.trust.clean clean)))).contents was.certain was.doubtful was.only;
       may = was.may;
     }
   where

@@ -24,6 +24,10 @@ create_of Second = second_text
 abbrev pub insert_text : List ℕ
 insert_text = codes "INSERT INTO journal2 VALUES (?1, ?2, ?3, ?4, ?5, ?6, ?7)"
 
+-- the text that takes out the records from a position on
+abbrev pub delete_text : List ℕ
+delete_text = codes "DELETE FROM journal2 WHERE pos >= ?1"
+
 -- the text that reads all records of each table
 abbrev pub select_of : Part → List ℕ
 select_of First =

@@ -1,6 +1,6 @@
 -- A store in memory after a call, as its code computes it.
 use Rattle.std.specs.Prelude.{◌≡◌, ◌⊎◌, ◌<◌, ◌≤◌, ◌-◌, ◌^◌, false, [], ◌∷◌, ◌++◌, None, Some, Result}
-use Rattle.std.specs.Prelude.{Ok, Err, List, length}
+use Rattle.std.specs.Prelude.{Ok, Err, List, length, take, ℕ, ◌+◌}
 use Rattle.std.specs.Option.{OnSome}
 use Rattle.urb_stable.specs.Entries.{Entry}
 use Rattle.urb_stable.specs.MemoryStores.{Memory, after_failure, with_doubt, without_memory}
@@ -48,3 +48,22 @@ pub record StoresAllInMemory (old : Memory) (entries : List Entry)
 -- the store after a retrieve
 abbrev pub retrieved : Memory → Memory
 retrieved m = record m { certain = with_doubt m.certain m.doubt; doubt = None; doubtful = false }
+
+-- the store without its last `count` records
+abbrev pub without_records : ℕ → Memory → Memory
+without_records count m = record m { certain = take (length m.certain - count) m.certain }
+
+-- the store after it failed to take records out
+abbrev pub after_refusal : Memory → Memory
+after_refusal m = record m { failures = m.failures + 1; armed = None }
+
+-- What a store in memory does when it is to take out its last `count` records, and has as many. If
+-- it isn't armed, it takes them out. If it is, it keeps all records. If no further failure can be
+-- counted, an armed store returns NoMemory.
+pub record WithdrawsInMemory (old : Memory) (count : ℕ) (result : Result (Unit {0}) StoreFault)
+    (new : Memory) : Type 0 where
+  pub unarmed : old.armed ≡ None → (result ≡ Ok tt) × (new ≡ without_records count old)
+  pub keeps_all : OnSome old.armed (old.failures < 2 ^ 64 - 1
+      → (result ≡ Err fault.Device) × (new ≡ after_refusal old))
+  pub uncounted : OnSome old.armed (2 ^ 64 - 1 ≤ old.failures
+      → (result ≡ Err fault.NoMemory) × (new ≡ record old { armed = None }))

@@ -5,12 +5,11 @@ use super::rows::{Form, image, record};
 use std::alloc::{Allocator, Global};
 use std::test::Fail;
 use urb_names::Message;
-use urb_refusing::Refusing;
 use urb_stable::*;
 
 /// A call with its expected answer.
 #[derive(Clone, Copy)]
-enum Step {
+pub(super) enum Step {
     /// Keeps these records ahead.
     Keep(&'static [Form], Result<(), StoreFault>),
     /// Stores this record at a position.
@@ -19,8 +18,6 @@ enum Step {
     StoreAll(u32, &'static [Form], Result<(), StoreFault>),
     /// The retrieve gives these records.
     Retrieve(&'static [Form]),
-    /// The retrieve fails.
-    Refuse(StoreFault),
     /// The number of records ahead.
     Left(usize),
     /// The next position.
@@ -31,12 +28,10 @@ enum Step {
     Stop,
 }
 
-type Ahead<A> = AheadStore<MemStable<A>>;
-
 /// The records of the tests: three pairs of node 1, and the certificates of two of them.
-const FIRST: Form = Form::Pend(1, 1);
+pub(super) const FIRST: Form = Form::Pend(1, 1);
 
-const SECOND: Form = Form::Pend(1, 2);
+pub(super) const SECOND: Form = Form::Pend(1, 2);
 
 const THIRD: Form = Form::Pend(1, 3);
 
@@ -56,9 +51,9 @@ fn are_same<A: Allocator>(xs: &[Record<Message<A>>], ys: &[Record<Message<A>>]) 
 }
 
 // What a store answers to a record at a position. `None` if there is no such record.
-fn store_one<A: Allocator + Copy>(
-    store: &mut Ahead<A>,
-    calm: A,
+fn store_one<S: Stable>(
+    store: &mut AheadStore<S>,
+    calm: S::Alloc,
     pos: u32,
     form: Form,
 ) -> Option<Result<(), StoreFault>> {
@@ -69,9 +64,9 @@ fn store_one<A: Allocator + Copy>(
 }
 
 // What it answers to several records.
-fn store_several<A: Allocator + Copy>(
-    store: &mut Ahead<A>,
-    calm: A,
+fn store_several<S: Stable>(
+    store: &mut AheadStore<S>,
+    calm: S::Alloc,
     pos: u32,
     forms: &[Form],
 ) -> Option<Result<(), StoreFault>> {
@@ -82,7 +77,7 @@ fn store_several<A: Allocator + Copy>(
 }
 
 // Whether it gives these records.
-fn gives<A: Allocator + Copy>(store: &mut Ahead<A>, calm: A, forms: &[Form]) -> Option<bool> {
+fn gives<S: Stable>(store: &mut AheadStore<S>, calm: S::Alloc, forms: &[Form]) -> Option<bool> {
     let wanted = image(calm, forms, b"")?;
     let are_same = match store.retrieve(calm) {
         Ok(given) => {
@@ -96,19 +91,8 @@ fn gives<A: Allocator + Copy>(store: &mut Ahead<A>, calm: A, forms: &[Form]) -> 
     Some(are_same)
 }
 
-// What it answers instead of records.
-fn fault_of<A: Allocator + Copy>(store: &mut Ahead<A>, calm: A) -> Option<StoreFault> {
-    match store.retrieve(calm) {
-        Ok(given) => {
-            drop(given);
-            None
-        }
-        Err(fault) => Some(fault),
-    }
-}
-
 // Whether a step gets its expected answer.
-fn is_right<A: Allocator + Copy>(store: &mut Ahead<A>, calm: A, step: Step) -> bool {
+fn is_right<S: Stable>(store: &mut AheadStore<S>, calm: S::Alloc, step: Step) -> bool {
     match step {
         Step::Keep(forms, answer) => match image(calm, forms, b"") {
             Some(mut entries) => store.store_ahead(&mut entries) == answer,
@@ -119,7 +103,6 @@ fn is_right<A: Allocator + Copy>(store: &mut Ahead<A>, calm: A, step: Step) -> b
             store_several(store, calm, pos, forms) == Some(answer)
         }
         Step::Retrieve(forms) => gives(store, calm, forms) == Some(true),
-        Step::Refuse(fault) => fault_of(store, calm) == Some(fault),
         Step::Left(left) => store.left() == left,
         Step::Next(pos) => store.next() == pos,
         Step::Doubtful(is_doubtful) => store.doubtful() == is_doubtful,
@@ -181,29 +164,54 @@ fn records_ahead_are_given_out_one_by_one(rt: HostRuntime) -> Result<(), Fail> {
 }
 
 #[test]
-fn another_record_spends_the_store(rt: HostRuntime) -> Result<(), Fail> {
+fn another_record_takes_the_place_of_those_ahead(rt: HostRuntime) -> Result<(), Fail> {
     let steps = [
-        Step::Keep(&[FIRST, SECOND], Ok(())),
+        Step::Keep(&[FIRST, SECOND, CERTIFIED], Ok(())),
         Step::Store(1, FIRST, Ok(())),
-        Step::Store(2, THIRD, Err(StoreFault::Device)),
-        Step::Doubtful(true),
-        Step::Store(2, SECOND, Err(StoreFault::Place(2))),
-        Step::StoreAll(2, &[SECOND], Err(StoreFault::Place(2))),
-        Step::Keep(&[SECOND], Err(StoreFault::Place(2))),
-        Step::Refuse(StoreFault::Device),
-        Step::Refuse(StoreFault::Device),
-        Step::Left(1),
-        Step::Next(2),
-        Step::Stop,
+        Step::Store(2, THIRD, Ok(())),
+        Step::Left(0),
         Step::Doubtful(false),
-        Step::Retrieve(&[FIRST, SECOND]),
         Step::Next(3),
+        Step::Retrieve(&[FIRST, THIRD]),
+        Step::Keep(&[SECOND, CERTIFIED], Ok(())),
+        Step::Store(3, SECOND, Ok(())),
+        Step::Stop,
+        Step::Retrieve(&[FIRST, THIRD, SECOND, CERTIFIED]),
     ];
     take_steps(rt.alloc(), &steps)
 }
 
 #[test]
-fn several_records_spend_the_store(rt: HostRuntime) -> Result<(), Fail> {
+fn a_store_that_cannot_take_records_out_keeps_those_ahead(rt: HostRuntime) -> Result<(), Fail> {
+    let alloc = rt.alloc();
+    // A store that may hold records ahead itself refuses to take records out.
+    let inner = AheadStore::new(alloc, MemStable::new(alloc));
+    let mut store = AheadStore::new(alloc, inner);
+    let steps = [
+        Step::Keep(&[FIRST, SECOND], Ok(())),
+        Step::Store(1, THIRD, Err(StoreFault::Device)),
+        Step::Left(2),
+        Step::Doubtful(true),
+        Step::Store(1, FIRST, Err(StoreFault::Place(1))),
+        Step::StoreAll(1, &[FIRST], Err(StoreFault::Place(1))),
+        Step::Keep(&[FIRST], Err(StoreFault::Place(1))),
+        Step::Retrieve(&[]),
+        Step::Doubtful(false),
+        Step::Store(1, THIRD, Err(StoreFault::Device)),
+        Step::Retrieve(&[]),
+        Step::Store(1, FIRST, Ok(())),
+        Step::Store(2, SECOND, Ok(())),
+        Step::Store(3, THIRD, Ok(())),
+        Step::Retrieve(&[FIRST, SECOND, THIRD]),
+    ];
+    let are_right = are_right(&mut store, alloc, &steps);
+    drop(store);
+    assert!(rt; are_right);
+    Ok(())
+}
+
+#[test]
+fn several_records_wait_for_those_ahead(rt: HostRuntime) -> Result<(), Fail> {
     let steps = [
         Step::Keep(&[FIRST, SECOND], Ok(())),
         Step::StoreAll(1, &[], Ok(())),
@@ -211,7 +219,8 @@ fn several_records_spend_the_store(rt: HostRuntime) -> Result<(), Fail> {
         Step::Left(2),
         Step::StoreAll(1, &[FIRST, SECOND], Err(StoreFault::Device)),
         Step::Store(1, FIRST, Err(StoreFault::Place(1))),
-        Step::Refuse(StoreFault::Device),
+        Step::Retrieve(&[]),
+        Step::Store(1, FIRST, Ok(())),
         Step::Stop,
         Step::Retrieve(&[FIRST, SECOND]),
     ];
@@ -287,12 +296,16 @@ fn a_failure_stays_hidden_until_the_next_store(rt: HostRuntime) -> Result<(), Fa
         Step::Doubtful(false),
         Step::Next(1),
         Step::Keep(&[FIRST], Err(StoreFault::Place(1))),
-        Step::Refuse(StoreFault::Device),
         Step::Store(1, FIRST, Err(StoreFault::Device)),
         Step::Doubtful(true),
-        Step::Refuse(StoreFault::Device),
-        Step::Stop,
+        Step::Store(1, FIRST, Err(StoreFault::Place(1))),
         Step::Retrieve(&[]),
+        Step::Left(0),
+        Step::Doubtful(false),
+        Step::Store(1, THIRD, Ok(())),
+        Step::Keep(&[FIRST, SECOND], Ok(())),
+        Step::Stop,
+        Step::Retrieve(&[THIRD, FIRST, SECOND]),
     ];
     take_steps_failing(rt.alloc(), &steps)
 }
@@ -303,86 +316,25 @@ fn a_failure_ends_the_next_store_of_several_records(rt: HostRuntime) -> Result<(
         Step::Keep(&[FIRST], Err(StoreFault::Device)),
         Step::StoreAll(1, &[], Ok(())),
         Step::StoreAll(1, &[SECOND, THIRD], Err(StoreFault::Device)),
-        Step::Refuse(StoreFault::Device),
-        Step::Stop,
         Step::Retrieve(&[]),
+        Step::StoreAll(1, &[SECOND, THIRD], Ok(())),
+        Step::Retrieve(&[SECOND, THIRD]),
     ];
     take_steps_failing(rt.alloc(), &steps)
 }
 
-// Keeps two records ahead and gives out the first. If a growth of the store is refused, the next
-// store fails, and a new store keeps them ahead on the next try. Returns whether it was refused, or
-// `None` if that isn't so.
-fn is_ahead_late<A: Allocator + Copy>(heap: A, calm: A) -> Option<bool> {
-    let mut store = AheadStore::new(calm, MemStable::new(heap));
-    let mut entries = image(calm, &[FIRST, SECOND], b"")?;
-    let answer = store.store_ahead(&mut entries);
-    let failing = [
-        Step::Left(2),
-        Step::Doubtful(false),
-        Step::Store(1, FIRST, Err(StoreFault::Device)),
-        Step::Refuse(StoreFault::Device),
-    ];
-    let retry = [Step::Retrieve(&[]), Step::Keep(&[FIRST, SECOND], Ok(()))];
-    let mut is_sound = answer == Ok(()) || answer == Err(StoreFault::NoMemory);
-    if answer.is_err() {
-        let has_failed = are_right(&mut store, calm, &failing);
-        store = AheadStore::new(calm, store.into_inner());
-        is_sound = is_sound && has_failed && are_right(&mut store, calm, &retry);
-    }
-    let rest = [
-        Step::Left(2),
-        Step::Store(1, FIRST, Ok(())),
-        Step::Retrieve(&[FIRST]),
-        Step::Store(2, SECOND, Ok(())),
-        Step::Next(3),
-    ];
-    let is_right = is_sound && are_right(&mut store, calm, &rest);
-    drop(store);
-    is_right.then_some(answer.is_err())
-}
-
 // Whether all steps get their expected answers.
-fn are_right<A: Allocator + Copy>(store: &mut Ahead<A>, calm: A, steps: &[Step]) -> bool {
+pub(super) fn are_right<S: Stable>(
+    store: &mut AheadStore<S>,
+    calm: S::Alloc,
+    steps: &[Step],
+) -> bool {
     for step in steps {
         if !is_right(store, calm, *step) {
             return false;
         }
     }
     true
-}
-
-// The same, with growth number `refused` refused. Also `None` if the result doesn't match whether
-// that growth was requested.
-fn is_ahead_late_at(alloc: Global, refused: u64) -> Option<bool> {
-    let calm = Refusing::new(alloc, 0);
-    let heap = Refusing::new(alloc, refused);
-    let is_late = is_ahead_late(&heap, &calm);
-    let has_met = heap.has_failed();
-    drop(heap);
-    drop(calm);
-    if is_late == Some(has_met) {
-        is_late
-    } else {
-        None
-    }
-}
-
-// The number of growths, after each was refused in turn; 0 if anything else happens.
-fn growths(alloc: Global) -> u64 {
-    for refused in 1..100 {
-        match is_ahead_late_at(alloc, refused) {
-            Some(true) => {}
-            Some(false) => return refused.saturating_sub(1),
-            None => return 0,
-        }
-    }
-    0
-}
-
-#[test]
-fn each_growth_refused_fails_the_next_store(rt: HostRuntime) {
-    assert!(rt; 1 < growths(rt.alloc()));
 }
 
 // Whether a value may go to another thread, and be dropped there.

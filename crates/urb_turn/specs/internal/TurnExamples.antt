@@ -37,7 +37,11 @@ lying = record (in_memory (Unit {0})) { is_honest = λ s. ⊥ }
 
 -- the same, of a store that has given out the first records and holds the others ahead
 abbrev pub ahead_of : (given others : List Entry) → Ghosts Memory (Unit {0})
-ahead_of given others = record (in_memory (Unit {0})) { base = λ s. given; ahead = λ s. others }
+ahead_of given others = record (in_memory (Unit {0})) {
+  base = λ s. given;
+  ahead = λ s. others;
+  can_hold = λ s records. true;
+}
 
 -- a store that holds a pair
 abbrev pub holding : Memory
@@ -185,13 +189,15 @@ with_a_fifth = record {
 abbrev pub two_submits : List Event
 two_submits = Submit 1 (message 7 1 "") ∷ Submit 1 (message 7 2 "") ∷ []
 
--- the ghost values of a store in memory that holds ahead what it has, and has given out nothing
+-- the ghost values of a store in memory that holds ahead what it has, has given out nothing, and can
+-- hold more
 abbrev pub all_ahead : Ghosts Memory (Unit {0})
 all_ahead = record (in_memory (Unit {0})) {
   certain = λ s. [];
   place = λ s. 1;
   leaves_only = λ s P. P [];
   ahead = λ s. s.certain;
+  can_hold = λ s records. true;
 }
 
 -- a store that has the records of two submits

@@ -20,6 +20,9 @@ pub fn stores_that_were_prepared()
         holding → ⊥ }
     ensures not_other_records { HoldsForeseen all_ahead new_four 1 two_submits None empty_memory
         holding_others → ⊥ }
+    // It can hold them, so it was asked.
+    ensures not_as_before { HoldsForeseen all_ahead new_four 1 two_submits None empty_memory
+        empty_memory → ⊥ }
     ensures for_no_calls { HoldsForeseen all_ahead new_four 1 [] None empty_memory empty_memory }
     ensures no_records_for_no_calls { HoldsForeseen all_ahead new_four 1 [] None empty_memory
         holding_both → ⊥ }

@@ -103,6 +103,8 @@ impl<'a, R: Clock> Stable for Slow<'a, R> {
 
     ghost base = { λ s. ⟦<MemStable as Stable>⟧.base s.store };
 
+    ghost can_hold = { λ s. ⟦<MemStable as Stable>⟧.can_hold s.store };
+
     fn next(&self) -> u32 {
         self.store.next()
     }
@@ -123,6 +125,10 @@ impl<'a, R: Clock> Stable for Slow<'a, R> {
 
     fn retrieve(&mut self, alloc: Global) -> Result<Vec<Record>, StoreFault> {
         self.store.retrieve(alloc)
+    }
+
+    fn store_ahead(&mut self, records: &mut Vec<Record>) -> Result<(), StoreFault> {
+        self.store.store_ahead(records)
     }
 }
 

@@ -72,6 +72,8 @@ impl Stable for Strange {
 
     ghost base = { λ s. ⟦<MemStable as Stable>⟧.base s.store };
 
+    ghost can_hold = { λ s. ⟦<MemStable as Stable>⟧.can_hold s.store };
+
     fn next(&self) -> u32 {
         self.store.next()
     }
@@ -101,6 +103,10 @@ impl Stable for Strange {
             }
             _ => Err(StoreFault::NoMemory),
         }
+    }
+
+    fn store_ahead(&mut self, records: &mut Vec<Record>) -> Result<(), StoreFault> {
+        self.store.store_ahead(records)
     }
 }
 

@@ -123,6 +123,8 @@ fn a_timer_sleeps_where_no_time_is_told(rt: HostRuntime) -> Result<(), Fail> {
     let (are_ticks, took) = ticks(&rt, rt.alloc(), 0, 100).ok_or("memory")?;
     assert!(rt; are_ticks);
     assert!(rt; took >= Duration::from_millis(100), "{took:?}");
+    // A hundred sleeps of 50 milliseconds would take five seconds.
+    assert!(rt; took < Duration::from_millis(4_000), "{took:?}");
     Ok(())
 }
 

@@ -1,4 +1,4 @@
-use Rattle.std.proofs.Common.{[]}
+use Rattle.std.proofs.Common.{[], false}
 use Rattle.sqlite.specs.Files.{file_state}
 use Rattle.urb_daemon.proofs.FilesAtKills.{batch_files}
 use Rattle.urb_daemon.proofs.laws.a_kill_amid_a_batch_leaves_files_with_all_or_none.Goals as goal
@@ -21,6 +21,7 @@ returns g c image first start past n batch before sound shows holding stopped =
       answers = _;
       ahead = λ j. [];
       base = λ j. [];
+      can_hold = λ j records. false;
     })
     first start past sound shows n batch before c.args.store.now holding
     (file_state c.args.store.now.store.journal.conn).may_leave

@@ -16,6 +16,7 @@ use Rattle.urb_group.specs.StoreOpenings.{AllGive}
 use Rattle.urb_world.specs.MemoryStores.{in_memory}
 use Rattle.urb_world.specs.internal.Examples.{limits}
 use Rattle.urb_folder.specs.AskedStores.{AllAnswer, OpensTogether}
+use Rattle.urb_daemon.proofs.AheadRuns.{fresh_sound}
 use Rattle.urb_daemon.specs.Runs.{EndsFrom}
 use Rattle.urb_daemon.specs.declared.serve_fault.ServeFault.{ServeFault}
 use Rattle.urb_daemon.specs.declared.serve_fault.ServeFault.TheVariants.{Unopened}
@@ -92,19 +93,6 @@ none-some x xs e = cc
 one-store : (m : Memory) (s : AheadView Memory) → m ∷ [] ≡ s.store ∷ [] → m ≡ s.store
 one-store m s e = cc
 
--- a wrapped store that holds nothing ahead yet is sound
-fresh-sound : IsSound memory (fresh memory empty_memory)
-fresh-sound = record {
-  spent = λ e. refl;
-  failing = λ e. refl;
-  unspent = λ e. omega arith;
-  sure = λ some. absurd (omega (arith, some));
-  settled = λ some e. absurd (omega (arith, some));
-  follows = λ some e honest. absurd (omega (arith, some));
-  counted = λ e honest. absurd (cc);
-  left = λ some trusted. absurd (omega (arith, some));
-}
-
 pub returns-clause-without_memory : goal.returns-clause-without_memory
 returns-clause-without_memory c = record {
   lasts = fresh memory empty_memory ∷ [];
@@ -127,7 +115,7 @@ returns-clause-without_memory c = record {
         → slice_get (fresh memory empty_memory ∷ []) i ≡ Some s → IsSound memory s
     at zero s got =
         let same : fresh memory empty_memory ≡ s = cc in
-        subst (λ (x : AheadView Memory). IsSound memory x) same fresh-sound
+        subst (λ (x : AheadView Memory). IsSound memory x) same (fresh_sound memory empty_memory)
     at (suc i) s got = absurd (cc)
 
 pub returns-clause-that_loses_its_store : goal.returns-clause-that_loses_its_store
@@ -141,21 +129,20 @@ returns-clause-that_loses_its_store c h =
 pub returns-clause-that_ends_unreported : goal.returns-clause-that_ends_unreported
 returns-clause-that_ends_unreported c h = unreported _ h.lasts h.ends
 
--- a store that had failed as often as can be counted
+-- a store that had failed more often than a store over it can count
 abbrev worn : Memory
-worn = record empty_memory { failures = 2 ^ 64 - 1 }
+worn = record empty_memory { failures = 2 ^ 64 }
 
 -- it doesn't come back without its failures
 not-mended : (s : AheadView Memory) → IsSound memory s → IsLeft worn s → empty_memory ≡ s.store → ⊥
 not-mended s sound (inl same) e =
-    let none : 0 ≡ 2 ^ 64 - 1 =
+    let none : 0 ≡ 2 ^ 64 =
     ap (λ (m : Memory). m.failures) e ∙ ap (λ (x : AheadView Memory). x.store.failures) same in
     absurd (omega (arith, none))
 not-mended s sound (inr (answer, gives)) e =
     let none : 0 ≡ s.store.failures = ap (λ (m : Memory). m.failures) e in
-    let grows : 2 ^ 64 - 1 + 0 ≤ s.store.failures + s.failures = gives.counts.grows in
-    let unspent : s.failures < 2 ^ 64 - 1 = sound.unspent (sound.spent gives.ahead.ahead) in
-    absurd (omega (arith, none, grows, unspent))
+    let grows : 2 ^ 64 + 0 ≤ s.store.failures + s.failures = gives.counts.grows in
+    absurd (omega (arith, none, grows, sound.bounded))
 
 pub returns-clause-that_forgets_failures : goal.returns-clause-that_forgets_failures
 returns-clause-that_forgets_failures c h =

@@ -1,4 +1,4 @@
-use Rattle.std.proofs.Common.{arith, false, length, subst, sym, take, ◌++◌, ◌-◌, ◌<◌, ◌||◌, ◌≡◌}
+use Rattle.std.proofs.Common.{arith, false, length, subst, sym, take, ◌++◌, ◌-◌, ◌<◌, ◌≡◌}
 use Rattle.urb_stable.specs.AheadStores.{AheadView}
 use Rattle.urb_stable.proofs.AheadStores.{fails-less, gives-less}
 use Rattle.urb_stable.proofs.ahead_store.AheadStore.retrieve_less.Goals as goal
@@ -8,8 +8,8 @@ returns-in-Err g c =
     let it = c.self.inside in
     let some : 0 < length it.queue.left =
     subst (λ (s : AheadView _). 0 < length s.ahead) (sym c.self.view_is) c.requires.some in
-    let held : (it.failing || it.spent) ≡ false =
-    subst (λ (s : AheadView _). (s.failing || s.spent) ≡ false) (sym c.self.view_is) c.requires.held in
+    let held : it.failing ≡ false =
+    subst (λ (s : AheadView _). s.failing ≡ false) (sym c.self.view_is) c.requires.held in
     rw (← c.self.view_is) (fails-less g.S.Stable it.store c.retrieve.new.self it.start.value
     (g.S.Stable.certain it.start.value ++ it.queue.taken) it.queue.left it.failing it.spent it.failures
     c.in-Err.fault c.self.invariant some held (record {
@@ -31,8 +31,8 @@ returns g c =
     let it = c.self.inside in
     let some : 0 < length it.queue.left =
     subst (λ (s : AheadView _). 0 < length s.ahead) (sym c.self.view_is) c.requires.some in
-    let held : (it.failing || it.spent) ≡ false =
-    subst (λ (s : AheadView _). (s.failing || s.spent) ≡ false) (sym c.self.view_is) c.requires.held in
+    let held : it.failing ≡ false =
+    subst (λ (s : AheadView _). s.failing ≡ false) (sym c.self.view_is) c.requires.held in
     let size : c.saturating_sub.result ≡ length c.in-Ok.whole.items - length it.queue.left =
     omega (arith, c.saturating_sub.ensures, c.len.ensures, c.in-Ok.whole.ok.0, c.left-left.ensures) in
     let items : c.truncate.new.self.items

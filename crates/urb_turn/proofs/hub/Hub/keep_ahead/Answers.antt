@@ -37,6 +37,7 @@ returns-clause-prepares g c =
           may = c.foresee-records.ensures.may (omega (arith, h));
           answer = c.store_ahead-answer.result;
           keeps = record {
+            placed = k.placed;
             still = k.still;
             certain = k.certain;
             trust = k.trust;
@@ -59,6 +60,7 @@ returns-clause-keeps g c start opening h =
     c.foresee-records.ensures.leads
     (c.foresee-records.ensures.may (omega (arith, len)))
     (record {
+      placed = k.placed;
       still = k.still;
       certain = k.certain;
       trust = k.trust;

@@ -7,8 +7,7 @@ use Rattle.std.specs.Prelude.{MatchBool}
 use Rattle.urb_names.specs.declared.refusal.NoMemory.{NoMemory}
 use Rattle.urb_stable.specs.KeptTails.{Rests}
 use Rattle.urb_stable.specs.MemoryStores.{Memory}
-use Rattle.urb_stable.specs.RecordsAhead.{HoldsAhead, MayHoldAhead}
-use Rattle.urb_stable.specs.StableStorage.{is_place}
+use Rattle.urb_stable.specs.RecordsAhead.{HoldsAhead, IsHoldRefused, MayHoldAhead}
 use Rattle.urb_turn.proofs.NewSubmits.{both-alone, both-foreseen, both-held, one-alone}
 use Rattle.urb_turn.proofs.NewTails.{first-number}
 use Rattle.urb_turn.specs.KeptTails.{AsksToHold, HoldsForeseen}
@@ -26,6 +25,7 @@ holds-both = record {
     may = both-held;
     answer = Ok tt;
     keeps = record {
+      placed = tt;
       still = record { place = refl; doubtful = refl; doubt = refl };
       certain = λ honest. refl;
       trust = record { clean = λ h. h; honest = λ h. h; alive = λ h clean. h };
@@ -35,25 +35,20 @@ holds-both = record {
   };
 }
 
--- a store that was asked to hold records holds just these, or stayed as it was
+-- a store that was asked to hold records, and can hold them, holds just these
 asked : (records : List Entry) (before after : Memory)
-    → AsksToHold all_ahead new_four 1 records before after
-    → (after.certain ≡ records) ⊎ (after ≡ before)
-asked records before after h = at h.answer h.keeps.holds
+    → AsksToHold all_ahead new_four 1 records before after → after.certain ≡ records
+asked records before after h = (at h.answer h.keeps.placed h.keeps.holds).ahead
   where
     Held : Type 0
     Held = HoldsAhead records (all_ahead.ahead after) (all_ahead.certain before)
         (all_ahead.base after) (all_ahead.is_honest before) (Rests all_ahead after)
 
-    fails : (b : Bool) → MatchBool b (after ≡ before) Held
-        → (after.certain ≡ records) ⊎ (after ≡ before)
-    fails true same = inr same
-    fails false held = inl held.ahead
-
-    at : (a : Result (Unit {0}) StoreFault) → MayHoldAhead before after Held a
-        → (after.certain ≡ records) ⊎ (after ≡ before)
-    at (Ok done) held = inl held.ahead
-    at (Err fault) holds = fails (is_place fault) holds
+    at : (a : Result (Unit {0}) StoreFault) → IsHoldRefused true a
+        → MayHoldAhead before after Held a → Held
+    at (Ok done) placed held = held
+    at (Err fault) placed holds =
+        subst (λ (b : Bool). MatchBool b (after ≡ before) Held) placed holds
 
 some-none : {A : Type 0} (x : A) (xs : List A) → x ∷ xs ≡ [] → ⊥
 some-none x xs e = cc
@@ -65,13 +60,11 @@ later (r ∷ rs) = rs
 
 -- an empty store that holds other records than both was not asked to hold those
 not-both : (after : Memory) → (after.certain ≡ pending 1 1 ∷ pending 1 2 ∷ [] → ⊥)
-    → (after ≡ empty_memory → ⊥)
     → HoldsForeseen all_ahead new_four 1 two_submits None empty_memory after → ⊥
-not-both after other grown h =
+not-both after other h =
     let is = both-alone h.records h.foreseen in
-    ⊎_elim (λ e. other (e ∙ is)) grown
-    (asked h.records empty_memory after (h.enough
-    (subst (λ (rs : List Entry). 2 ≤ length rs) (sym is) (omega arith))))
+    other (asked h.records empty_memory after (h.enough
+    (subst (λ (rs : List Entry). 2 ≤ length rs) (sym is) (omega arith))) ∙ is)
 
 changed : (after : Memory) (r : Entry) (rs : List Entry) → after.certain ≡ r ∷ rs
     → after ≡ empty_memory → ⊥
@@ -87,15 +80,17 @@ returns-clause-of_a_run c =
 
 pub returns-clause-not_the_first_alone : goal.returns-clause-not_the_first_alone
 returns-clause-not_the_first_alone c h =
-    not-both holding (λ e. some-none (pending 1 2) [] (sym (ap later e)))
-    (changed holding (pending 1 1) [] refl) h
+    not-both holding (λ e. some-none (pending 1 2) [] (sym (ap later e))) h
 
 pub returns-clause-not_other_records : goal.returns-clause-not_other_records
 returns-clause-not_other_records c h =
     not-both holding_others
     (λ e. let three : 3 ≡ 2 = ap (λ (rs : List Entry). first-number (later rs)) e in
-    omega (arith, three))
-    (changed holding_others (pending 1 1) (pending 1 3 ∷ []) refl) h
+    omega (arith, three)) h
+
+pub returns-clause-not_as_before : goal.returns-clause-not_as_before
+returns-clause-not_as_before c h =
+    not-both empty_memory (λ e. some-none (pending 1 1) (pending 1 2 ∷ []) (sym e)) h
 
 pub returns-clause-for_no_calls : goal.returns-clause-for_no_calls
 returns-clause-for_no_calls c = record {

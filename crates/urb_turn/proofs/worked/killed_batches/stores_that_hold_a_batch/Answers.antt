@@ -120,6 +120,7 @@ no-device e = cc
 keeps-first : KeepsTail (ahead_of [] (pending 1 1 ∷ [])) empty_memory (pending 1 1 ∷ []) (Ok tt)
     empty_memory
 keeps-first = record {
+  placed = tt;
   still = record { place = refl; doubtful = refl; doubt = refl };
   certain = λ honest. refl;
   trust = record {
