@@ -18,6 +18,7 @@ use urb_turn::{Hub, HubName, Job, Tally};
 
 mod batches;
 mod bursts;
+mod cut_feeds;
 mod desks;
 mod drafts;
 mod earlier;
@@ -39,6 +40,7 @@ mod shorts;
 mod sockets;
 mod spares;
 mod stations;
+mod steps;
 mod strays;
 mod time_limits;
 mod timers;
