@@ -18,3 +18,4 @@ mod steps;
 mod stops;
 mod stores;
 mod tables;
+mod withdrawals;

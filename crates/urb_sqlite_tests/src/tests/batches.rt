@@ -1,5 +1,5 @@
-//! Records that are stored together, also over files in memory that stop or fail at one of their
-//! calls.
+//! Records that are stored together, or taken out together, also over files in memory that stop or
+//! fail at one of their calls.
 
 use super::kept::{bytes_of, journal_of};
 use super::places::{Place, make_fused_place};
@@ -126,17 +126,80 @@ enum End {
     Program,
 }
 
-/// What happened to three records that were stored together after another one.
+/// What a journal does with three records behind its first one: it stores them together, or it has
+/// them and takes them out.
+#[derive(Clone, Copy)]
+enum Act {
+    Store,
+    Withdraw,
+}
+
+/// What came of an act.
 #[derive(Clone, Copy)]
 enum Met {
-    /// The file failed before that.
+    /// The file failed before it.
     Before,
-    /// They were refused, and later the journal had the first record, or all.
+    /// It was refused, and later the journal had the records from before it, or those after it.
     Refused,
-    /// They were stored, and later the journal had all.
-    Stored,
+    /// It was done, and later the journal had the records after it.
+    Done,
     /// Anything else.
     Wrong,
+}
+
+impl Act {
+    // The next position of the journal before the act, and after it.
+    fn places(self) -> (u32, u32) {
+        match self {
+            Act::Store => (2, 5),
+            Act::Withdraw => (5, 2),
+        }
+    }
+
+    // Opens a journal, and stores what it has before the act. Says whether that worked.
+    fn is_begun(self, place: &mut Place<Fuse<Memory>>, rows: &[Kept; 4]) -> bool {
+        place.is_open()
+            && place.store(1, rows[0]) == Some(Ok(()))
+            && match self {
+                Act::Store => true,
+                Act::Withdraw => place.store_all(2, &rows[1..]) == Some(Ok(())),
+            }
+    }
+
+    // What the journal answers.
+    fn run(
+        self,
+        place: &mut Place<Fuse<Memory>>,
+        rows: &[Kept; 4],
+    ) -> Option<Result<(), StoreFault>> {
+        match self {
+            Act::Store => place.store_all(2, &rows[1..]),
+            Act::Withdraw => place.withdraw(3),
+        }
+    }
+
+    // Whether the answer and the journal after it agree. Only a store leaves a record in doubt.
+    fn is_told(self, place: &Place<Fuse<Memory>>, answer: Option<Result<(), StoreFault>>) -> bool {
+        let (before, after) = self.places();
+        match answer {
+            Some(Ok(())) => place.stand() == Some((after, false)),
+            Some(Err(StoreFault::Device)) => {
+                place.stand() == Some((before, matches!(self, Act::Store)))
+            }
+            _ => false,
+        }
+    }
+
+    // Whether the journal that is found has the records after the act, or from before it if it
+    // wasn't done.
+    fn is_found(self, place: &mut Place<Fuse<Memory>>, rows: &[Kept; 4], is_done: bool) -> bool {
+        let (before, _) = self.places();
+        match place.stand() {
+            Some((2, false)) => !(is_done && before == 2) && place.holds(&rows[..1]),
+            Some((5, false)) => !(is_done && before == 5) && place.holds(rows),
+            _ => false,
+        }
+    }
 }
 
 // The journal that is found after this end.
@@ -161,62 +224,39 @@ fn open_again(
     }
 }
 
-// Whether the journal has all records, or only the first one if the others were refused.
-fn are_found(place: &mut Place<Fuse<Memory>>, rows: &[Kept; 4], is_stored: bool) -> bool {
-    match place.stand() {
-        Some((2, false)) => !is_stored && place.holds(&rows[..1]),
-        Some((5, false)) => place.holds(rows),
-        _ => false,
-    }
-}
-
-// Whether the answer and the journal after it agree.
-fn is_told(place: &Place<Fuse<Memory>>, answer: Option<Result<(), StoreFault>>) -> bool {
-    match answer {
-        Some(Ok(())) => place.stand() == Some((5, false)),
-        Some(Err(StoreFault::Device)) => place.stand() == Some((2, true)),
-        _ => false,
-    }
-}
-
-// Opens a journal, and stores the first record. Says whether that worked.
-fn is_begun(place: &mut Place<Fuse<Memory>>, rows: &[Kept; 4]) -> bool {
-    place.is_open() && place.store(1, rows[0]) == Some(Ok(()))
-}
-
-// Stores the first record, then the others together, and looks what is found after this end. The
-// log fails after this number of calls.
-fn store_and_end(alloc: Global, rows: &[Kept; 4], calls: u64, end: End) -> Met {
+// Has a journal do this, and looks what is found after this end. The log fails after this number of
+// calls.
+fn act_and_end(alloc: Global, rows: &[Kept; 4], act: Act, calls: u64, end: End) -> Met {
     let mut place = make_fused_place(alloc, calls, u64::MAX);
-    if !is_begun(&mut place, rows) {
+    if !act.is_begun(&mut place, rows) {
         drop(place);
         return Met::Before;
     }
-    let answer = place.store_all(2, &rows[1..]);
-    let is_stored = answer == Some(Ok(()));
-    let is_told = is_told(&place, answer);
+    let answer = act.run(&mut place, rows);
+    let is_done = answer == Some(Ok(()));
+    let is_told = act.is_told(&place, answer);
     let Some(found) = open_again(alloc, place, end) else {
         return Met::Wrong;
     };
     let mut again = found;
-    let are_found = are_found(&mut again, rows, is_stored);
+    let is_found = act.is_found(&mut again, rows, is_done);
     drop(again);
-    match (is_told && are_found, is_stored) {
-        (true, true) => Met::Stored,
+    match (is_told && is_found, is_done) {
+        (true, true) => Met::Done,
         (true, false) => Met::Refused,
         _ => Met::Wrong,
     }
 }
 
-// The least number of calls of the log with which the first record is stored, by halving. It is
-// below 1,024.
-fn calls_before(alloc: Global, rows: &[Kept; 4]) -> u64 {
+// The least number of calls of the log with which all is stored that the journal has before the
+// act, by halving. It is below 1,024.
+fn calls_before(alloc: Global, rows: &[Kept; 4], act: Act) -> u64 {
     let mut low = 0;
     let mut high = 1024;
     for _ in 0..10 {
         let middle = u64::saturating_add(low, high) / 2;
         let mut place = make_fused_place(alloc, middle, u64::MAX);
-        if is_begun(&mut place, rows) {
+        if act.is_begun(&mut place, rows) {
             high = middle;
         } else {
             low = u64::saturating_add(middle, 1);
@@ -226,14 +266,14 @@ fn calls_before(alloc: Global, rows: &[Kept; 4]) -> u64 {
     high
 }
 
-// Counts the calls of the log, after the first ones, whose failure refuses the three records.
-fn count_refused(alloc: Global, rows: &[Kept; 4], first: u64, end: End) -> Option<u64> {
+// Counts the calls of the log, after those from before the act, whose failure refuses the act.
+fn count_refused(alloc: Global, rows: &[Kept; 4], act: Act, end: End) -> Option<u64> {
     let mut met = 0;
-    let mut calls = first;
+    let mut calls = calls_before(alloc, rows, act);
     for _ in 0..1000 {
-        match store_and_end(alloc, rows, calls, end) {
+        match act_and_end(alloc, rows, act, calls, end) {
             Met::Refused => met = u64::saturating_add(met, 1),
-            Met::Stored => return Some(met),
+            Met::Done => return Some(met),
             _ => return None,
         }
         calls = u64::saturating_add(calls, 1);
@@ -241,19 +281,37 @@ fn count_refused(alloc: Global, rows: &[Kept; 4], first: u64, end: End) -> Optio
     None
 }
 
-/// A name, the records, how the journal ends, and how many refusals are met at least.
-static ENDS: [(&'static str, &'static [Kept; 4], End, u64); 3] = [
-    ("a stop", &FOUR, End::Machine, 2),
-    ("a stop, and a long payload", &LONG_FOUR, End::Machine, 2),
-    ("a kill", &FOUR, End::Program, 2),
+/// A name, the records, the act, how the journal ends, and how many refusals are met at least.
+static ENDS: [(&'static str, &'static [Kept; 4], Act, End, u64); 5] = [
+    ("a stop", &FOUR, Act::Store, End::Machine, 2),
+    (
+        "a stop, and a long payload",
+        &LONG_FOUR,
+        Act::Store,
+        End::Machine,
+        2,
+    ),
+    ("a kill", &FOUR, Act::Store, End::Program, 2),
+    (
+        "a stop, and records taken out",
+        &FOUR,
+        Act::Withdraw,
+        End::Machine,
+        2,
+    ),
+    (
+        "a kill, and records taken out",
+        &FOUR,
+        Act::Withdraw,
+        End::Program,
+        2,
+    ),
 ];
 
 #[test]
 fn a_stop_at_any_call_leaves_all_records_or_none(rt: HostRuntime) -> Result<(), Fail> {
-    // All begin with the same record.
-    let first = calls_before(rt.alloc(), &FOUR);
-    for (name, rows, end, least) in &ENDS {
-        match count_refused(rt.alloc(), *rows, first, *end) {
+    for (name, rows, act, end, least) in &ENDS {
+        match count_refused(rt.alloc(), *rows, *act, *end) {
             Some(met) if *least <= met => {}
             Some(met) => return Err(Fail::new(format_args!("{name}: {met} refusals"))),
             None => return Err(Fail::new(format_args!("{name}: something else is found"))),

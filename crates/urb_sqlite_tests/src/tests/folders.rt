@@ -2,8 +2,10 @@
 
 use super::files::{is_damaged, is_played};
 use super::group::{DELIVERY, Event, REPEAT, Said, Told, run, three};
+use super::places::Journal;
 use super::records::{Form, Kept, Load, record_of};
 use super::steps::Step;
+use sqlite_disk::Disk;
 use std::alloc::Global;
 use std::fs;
 use std::marker::Brand;
@@ -131,11 +133,21 @@ static DAMAGES: [(&'static str, Damage, Said); 18] = [
     ("nodes 1 and 3", Damage::Exchanged(THREE), Said::Unsent),
 ];
 
+// What the group over these journals says about the events, and the journals. The proof is of
+// files of any kind: over files with a long name it takes too long.
+fn run_journals<D: Disk + Drop>(
+    alloc: Global,
+    journals: Vec<Journal<D>>,
+    events: &[Event],
+) -> (Vec<Journal<D>>, Said) {
+    run(alloc, journals, events)
+}
+
 // What the group over the files says about the events. Its journals are closed.
 fn run_over_files(rt: &HostRuntime, events: &[Event]) -> Said {
     match open_nodes::<NodeFile<Brand>>(rt, FOLDER, three(), FolderClaim::new()) {
         Ok(journals) => {
-            let (journals, said) = run(rt.alloc(), journals, events);
+            let (journals, said) = run_journals(rt.alloc(), journals, events);
             if close_nodes(rt, FOLDER, journals).is_ok() {
                 said
             } else {

@@ -189,6 +189,11 @@ impl<D: Disk + Drop> Place<D> {
         Some(answer)
     }
 
+    /// The answer of the journal to taking out its last records.
+    pub fn withdraw(&mut self, count: usize) -> Option<Result<(), StoreFault>> {
+        Some(self.journal.as_mut()?.withdraw(count))
+    }
+
     /// Whether the journal returns the records of these rows, and then has no doubtful record.
     pub fn holds(&mut self, rows: &[Kept]) -> bool {
         let Some(journal) = self.journal.as_mut() else {

@@ -6,6 +6,7 @@ use super::places::{Place, make_fused_place};
 use super::records::{Form, Kept, Load};
 use super::stores::STORES;
 use super::tables::{BOTH, OLD, OLD_FILES, OTHERS};
+use super::withdrawals::WITHDRAWN;
 use sqlite_disk::Disk;
 use std::alloc::Global;
 use std::test::Fail;
@@ -22,6 +23,8 @@ pub enum Step {
     Store(u32, Kept, Result<(), StoreFault>),
     /// The records are stored together, the first at this position, or refused.
     StoreAll(u32, &'static [Kept], Result<(), StoreFault>),
+    /// The last records, as many as this, are taken out, or this is refused.
+    Withdraw(usize, Result<(), StoreFault>),
     /// The journal returns these records, and then has no doubtful record.
     Holds(&'static [Kept]),
     /// The next position, and whether a record is in doubt.
@@ -78,6 +81,7 @@ fn is_right<D: Disk + Drop>(place: &mut Place<D>, step: Step) -> bool {
         }
         Step::Store(at, row, wanted) => place.store(at, row) == Some(wanted),
         Step::StoreAll(at, rows, wanted) => place.store_all(at, rows) == Some(wanted),
+        Step::Withdraw(count, wanted) => place.withdraw(count) == Some(wanted),
         Step::Holds(rows) => place.holds(rows),
         Step::Stands(next, is_doubtful) => place.stand() == Some((next, is_doubtful)),
         Step::Sql(sql, count) => place.is_done(sql, count),
@@ -126,8 +130,8 @@ fn play_case(alloc: Global, (_, start, sql, steps): &Case) -> Option<usize> {
 
 #[test]
 fn each_step_is_answered_as_it_is_to(rt: HostRuntime) -> Result<(), Fail> {
-    let tables: [&[Case]; 7] = [
-        &STORES, &TOGETHER, &BAD, &GOOD, &OVER_BOTH, &OLD_FILES, &OTHERS,
+    let tables: [&[Case]; 8] = [
+        &STORES, &TOGETHER, &WITHDRAWN, &BAD, &GOOD, &OVER_BOTH, &OLD_FILES, &OTHERS,
     ];
     for table in tables {
         for case in table {
