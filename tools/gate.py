@@ -6,10 +6,10 @@
 The quick steps come first: documents, the layout of Python code, unit tests. If one of them fails,
 the run ends there, since the proofs may take two hours. Then a part of the wrong bodies is added to
 the must-fail edits; the hash of crates/ chooses it. Then `rt ci` runs: every proof whose text this
-machine hasn't proved before, the edits, the tests and the program. Then a part of the wrong
-definitions is tried again, if at most 110 minutes have passed. The same hash chooses the part. At
-the end the built program is tried as a user would use it (trials/gate). What a step needs and isn't
-installed is left out, with a line. Before the last line stands what each failing step said.
+machine hasn't proved before, the edits, the tests and the program. Then a few wrong definitions are
+tried again, if at most 110 minutes have passed. The same hash chooses them. At the end the built
+program is tried as a user would use it (trials/gate). What a step needs and isn't installed is left
+out, with a line. Before the last line stands what each failing step said, and how long it all took.
 """
 from __future__ import annotations
 
@@ -37,10 +37,11 @@ FAILED = re.compile(r"FAILED \((.*)\)")
 SKIPPED = re.compile(r"skipped=(\d+)")
 # A line that tells of a failure.
 TROUBLE = re.compile(r"fail|refus|error|panic|traceback|killed|not proved|timed out", re.I)
+# A line that tells of a success, whatever else it names.
+FINE = re.compile(r"\.\.\. ok$|^test result: ok|: trying its must-fail edits|, 0 failed$")
 # The number of these lines of a failing command that the end shows again.
 SHOWN_LINES = 40
-# After this many minutes no wrong definition is tried. That may take half an hour more, with a kit
-# that keeps no libraries for other copies of the tree. The program still has to be tried.
+# After this many minutes no wrong definition is tried. The program still has to be tried.
 LONG = 110
 
 
@@ -130,7 +131,7 @@ def quick_steps(tree: Tree) -> Iterator[Step]:
 def failure_of(name: str, said: str, status: int) -> str:
     """What the end of the run shows of a step that failed: its last lines that name a failure."""
     lines = said.splitlines()
-    telling = [line for line in lines if TROUBLE.search(line)] or lines
+    telling = [it for it in lines if TROUBLE.search(it) and not FINE.search(it)] or lines
     shown = "".join(f"  {line}\n" for line in telling[-SHOWN_LINES:])
     return f"gate: {name} failed, with status {status}. It said:\n{shown}"
 
@@ -181,7 +182,7 @@ def prove(tree: Tree) -> Count:
 
 
 def try_definitions(tree: Tree, begin: float) -> Count:
-    """Tries a part of the wrong definitions, unless the run that began then has taken long."""
+    """Tries a few wrong definitions, unless the run that began then has taken long."""
     minutes = (time.monotonic() - begin) / 60
     if minutes > LONG:
         print(f"gate: wrong definitions: left out, since {minutes:.0f} minutes have passed")
@@ -197,6 +198,11 @@ def try_program(tree: Tree) -> Count:
         return Count(0, 1, [f"gate: there is no {PROGRAM}\n"])
     words = [sys.executable, "-m", "trials", PROGRAM, "--gate"]
     return run_step(tree, Step("the built program", words))
+
+
+def time_line(seconds: float, processors: int) -> str:
+    """How long the run took, and how many processors it could use."""
+    return f"gate: {seconds / 60:.0f} minutes on {processors} processors"
 
 
 def main(words: Sequence[str], tree: Tree = Tree()) -> int:
@@ -219,5 +225,6 @@ def main(words: Sequence[str], tree: Tree = Tree()) -> int:
     elif not is_quick:
         print("gate: a quick step failed, so the proofs and the trials aren't begun")
     print(*total.failures, sep="", end="")
+    print(time_line(time.monotonic() - begin, len(os.sched_getaffinity(0))))
     print(total)
     return 1 if total.failed else 0

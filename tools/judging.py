@@ -14,12 +14,13 @@ A clause of an example counts as refusing a version only if another proof wouldn
 """
 from __future__ import annotations
 
+import importlib.util
 import os
 import re
 import shutil
 import signal
 import subprocess
-from collections.abc import Container, Iterable, Iterator, Sequence
+from collections.abc import Collection, Container, Iterable, Iterator, Sequence
 from dataclasses import dataclass, field
 from pathlib import Path
 
@@ -238,6 +239,27 @@ class Trial:
         ]
 
 
+def mark_built(top: Path, names: Collection[str]) -> None:
+    """Marks the libraries of these crates as built from the crates' texts.
+
+    Otherwise `rt check` builds them once more, which takes an hour for the uppermost. `rt ci` marks
+    none of its libraries, since they fit only each other. But these are of one run.
+    """
+    rt = shutil.which("rt")
+    file = Path(os.path.realpath(rt)).with_name("rtlib.py") if rt else Path()
+    found = importlib.util.spec_from_file_location("rtlib", file) if file.is_file() else None
+    if not names or found is None or found.loader is None:
+        return
+    rtlib = importlib.util.module_from_spec(found)
+    found.loader.exec_module(rtlib)
+    sums, sum_of = dict[str, str](), rtlib.Crate.stamp
+    # Many paths lead to a low crate. Its sum is made once.
+    rtlib.Crate.stamp = lambda it: sums.get(it.folder) or sums.setdefault(it.folder, sum_of(it))
+    for name in names:
+        folder = top / "crates" / name
+        (folder / "out/rlib/stamp").write_text(rtlib.Crate(str(folder), str(top), {}).stamp())
+
+
 class Room:
     """A copy of the tree, where versions are tried on the worked examples of one crate."""
 
@@ -248,10 +270,12 @@ class Room:
         shutil.copytree(tree.crates, room / "crates", ignore=ignored)
         for name in ("crates.txt", "HANDLES"):
             shutil.copy2(tree.top / name, room / name)
-        for built in tree.crates.glob("*/out/rlib"):
-            if built.parent.parent.name != crate:
-                there = room / "crates" / built.parent.parent.name / "out"
-                shutil.copytree(built, there / "rlib")
+        built = [it.parent.parent.name for it in tree.crates.glob("*/out/rlib")]
+        built = [name for name in built if name != crate]
+        for name in built:
+            library = f"{name}/out/rlib"
+            shutil.copytree(tree.crates / library, room / "crates" / library)
+        mark_built(room, built)
         self.examples = list(examples_of(self.specs, crate))
         self.closures = {it: closure(self.specs, [it]) for it in self.specs.text}
         self.origins = {

@@ -1,14 +1,16 @@
 """Tries again the wrong versions of definitions that docs/WRONG_DEFINITIONS.md lists.
 
     python3 -m tools wrong-definitions [CRATE..]   all that the examples of these crates refuse
-    python3 -m tools wrong-definitions --part      one part of them, as the gate does
+    python3 -m tools wrong-definitions --part      a few parts of them, as the gate does
 
 Each row of the page's tables names a version, and the clause of a worked example that refused it
 (tools/weaken.py makes the versions, and tools/judging.py tries them). A row passes if that clause
 refuses the version again. A version that says the same as the definition isn't tried.
 
-The gate tries one part of the rows: some of those that one crate's examples refuse. The hash of
-crates/ chooses it, so a run can be repeated. A try needs the built libraries of the crates below.
+The gate tries a few parts of the rows. A part has rows that one crate's examples refuse. The hash
+of crates/ chooses them, so a run can be repeated. A try needs the built libraries of the crates
+below. If a check takes too long, its rows fail. But the gate leaves them out, and says so: a slow
+machine says nothing of a definition.
 """
 from __future__ import annotations
 
@@ -27,7 +29,8 @@ from tools.tree import Misfit, Tree, crates_below
 from tools.weakening import Rules, Version
 
 PAGE = "docs/WRONG_DEFINITIONS.md"
-PART = 12  # rows tried in one run of the gate
+PART = 12  # rows of one crate's examples that are tried together
+PARTS = 4  # tried in one run of the gate
 ANSWERS = (0, 1, 3)  # the statuses of a check that says what it proved and what it didn't
 ROW = re.compile(r"\| `([^`]+)`(?: of `(\w+)`)? \| (.+) \| (.+) \|")
 REFUSED = re.compile(r"`(\w+)::(\w+)`, `(\w+)`")
@@ -173,10 +176,7 @@ def try_rows(listed: Listed, crate: str, rows: Sequence[Row]) -> Iterator[tuple[
                 trials.append((row, Trial(version, number, [example], {row.clause})))
             else:
                 yield row, "a clause like this can't count against it"
-        try:
-            run = room.check([trial for _, trial in trials])
-        except subprocess.TimeoutExpired as late:
-            run = Run(f"the check took over {late.timeout:.0f} seconds", 2)
+        run = room.check([trial for _, trial in trials])
         for row, trial in trials:
             if trial.unread:
                 yield row, f"the prover can't read it: {trial.unread}"
@@ -190,8 +190,22 @@ def last_line(text: str) -> str:
     return text.strip().rpartition("\n")[2][:100]
 
 
-def try_parts(listed: Listed, parts: Iterable[tuple[str, Sequence[Row]]]) -> int:
-    """Tries these parts, and counts. Gives the status."""
+def chosen_parts(
+    parts: Sequence[tuple[str, list[Row]]], digest: str
+) -> list[tuple[str, list[Row]]]:
+    """Those that the gate tries, far from each other. The hash chooses the first one."""
+    count = min(PARTS, len(parts))
+    begin = int(digest[:12], 16)
+    return [parts[(begin + at * len(parts) // count) % len(parts)] for at in range(count)]
+
+
+def try_parts(
+    listed: Listed, parts: Iterable[tuple[str, Sequence[Row]]], leaves_out_late: bool = False
+) -> int:
+    """Tries these parts, and counts. Gives the status.
+
+    The rows of a check that takes too long fail, or are left out.
+    """
     passed = failed = 0
     for crate, rows in parts:
         missing = missing_libraries(listed.tree, crate)
@@ -200,10 +214,15 @@ def try_parts(listed: Listed, parts: Iterable[tuple[str, Sequence[Row]]]) -> int
             print(f"wrong definitions: left out, since there is no library of {names}")
             continue
         print(f"wrong definitions: {len(rows)} that the examples of {crate} refuse", flush=True)
-        for row, wrong in try_rows(listed, crate, rows):
-            passed, failed = passed + (not wrong), failed + bool(wrong)
-            if wrong:
-                print(f"{row.place}: `{row.name}`: {row.what}: {wrong}", flush=True)
+        try:
+            for row, wrong in try_rows(listed, crate, rows):
+                passed, failed = passed + (not wrong), failed + bool(wrong)
+                if wrong:
+                    print(f"{row.place}: `{row.name}`: {row.what}: {wrong}", flush=True)
+        except subprocess.TimeoutExpired as late:
+            how = "left out" if leaves_out_late else "not tried"
+            failed += 0 if leaves_out_late else len(rows)
+            print(f"wrong definitions: {how}, since a check took over {late.timeout:.0f} seconds")
     print(f"{passed} passed, {failed} failed")
     return 1 if failed else 0
 
@@ -221,7 +240,7 @@ def main(words: Sequence[str], tree: Tree = Tree()) -> int:
         formatter_class=argparse.RawDescriptionHelpFormatter,
     )
     parser.add_argument("names", nargs="*", metavar="CRATE", help="a crate with worked examples")
-    parser.add_argument("--part", action="store_true", help="the part that the gate tries now")
+    parser.add_argument("--part", action="store_true", help="the parts that the gate tries now")
     options = parser.parse_args(words)
     listed = Listed(tree)
     misfits = list(listed.misfits())
@@ -231,7 +250,7 @@ def main(words: Sequence[str], tree: Tree = Tree()) -> int:
         return 1
     parts = listed.parts()
     if options.part:
-        parts = [parts[int(hash_of_crates(tree)[:12], 16) % len(parts)]] if parts else []
+        parts = chosen_parts(parts, hash_of_crates(tree))
     elif options.names:
         parts = [it for it in parts if it[0] in options.names]
-    return try_parts(listed, parts)
+    return try_parts(listed, parts, leaves_out_late=options.part)

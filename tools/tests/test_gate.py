@@ -47,8 +47,9 @@ class Gates(TreeTest):
         """The gate over a tree with these files, with these quick steps."""
         told = io.StringIO()
         with mock.patch.object(gate, "quick_steps", lambda tree: steps):
-            with contextlib.redirect_stdout(told):
-                status = gate.main(words, self.tree(files))
+            with mock.patch.object(gate, "time_line", lambda *_: "gate: 2 minutes"):
+                with contextlib.redirect_stdout(told):
+                    status = gate.main(words, self.tree(files))
         return status, told.getvalue()
 
     def test_a_step_that_needs_what_is_not_there_is_left_out(self) -> None:
@@ -61,8 +62,23 @@ class Gates(TreeTest):
     def test_the_end_shows_what_a_failing_step_said(self) -> None:
         steps = [Step("one", telling("fine\nit failed here\nfine", 1)), Step("two", telling("x"))]
         _, told = self.run_gate({}, steps, "--quick")
-        end = "gate: one failed, with status 1. It said:\n  it failed here\n1 passed, 1 failed\n"
+        failure = "gate: one failed, with status 1. It said:\n  it failed here\n"
+        end = f"{failure}gate: 2 minutes\n1 passed, 1 failed\n"
         self.assertTrue(told.endswith(end), told)
+
+    def test_the_end_says_how_long_it_took(self) -> None:
+        self.assertEqual(gate.time_line(7199.0, 2), "gate: 120 minutes on 2 processors")
+
+    def test_the_end_shows_no_success(self) -> None:
+        fine = [
+            "test tests::refusals::an_error_is_refused ... ok",
+            "test result: ok. 3 passed; 0 failed; 0 ignored; 0 filtered out",
+            "rt: urb_one: trying its must-fail edits (2)",
+            "gate: documents: 35 passed, 0 failed",
+        ]
+        bad = ["src/lib.rt:1:1: error: not proved", *fine, "2 passed, 1 failed"]
+        shown = gate.failure_of("one", "\n".join(bad), 1).splitlines()
+        self.assertEqual(shown[1:], ["  src/lib.rt:1:1: error: not proved", "  2 passed, 1 failed"])
 
     def test_a_failing_step_that_names_no_failure_shows_its_last_lines(self) -> None:
         lines = [f"line {number}" for number in range(50)]
@@ -112,7 +128,7 @@ class Gates(TreeTest):
     def test_quick_tries_no_wrong_definition(self) -> None:
         with mock.patch.object(gate, "try_definitions", side_effect=AssertionError):
             status, told = self.run_gate({}, [], "--quick")
-        self.assertEqual((status, told), (0, "0 passed, 0 failed\n"))
+        self.assertEqual((status, told), (0, "gate: 2 minutes\n0 passed, 0 failed\n"))
 
     def test_the_sample_is_cleared_even_if_rt_fails(self) -> None:
         tree = self.tree({"crates/a/must-fail/sample_x.edit": ""})

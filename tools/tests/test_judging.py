@@ -1,10 +1,12 @@
 """Wrong versions of definitions, tried on worked examples."""
 from __future__ import annotations
 
+import os
 import tempfile
 import textwrap
 import unittest
 from pathlib import Path
+from unittest import mock
 
 from tools import judging
 from tools.believed import Definition, Specs
@@ -259,6 +261,34 @@ class Modules(TreeTest):
         self.assertEqual(text.count(header), 2)
         self.assertIn("    pub same : Unit {0}\n", text)
         self.assertIn("Stores.{first}\n", text)
+
+
+# A kit's file about crates.
+KIT_CRATES = """
+    class Crate:
+        def __init__(self, folder, root, known):
+            self.folder, self.root, self.known = folder, root, known
+
+        def stamp(self):
+            return f"sum of {self.folder.removeprefix(self.root)}"
+"""
+
+
+class Marks(TreeTest):
+    def test_a_built_library_has_the_sum_of_its_crate(self) -> None:
+        files = {"kit/rt": "", "kit/rtlib.py": KIT_CRATES}
+        top = self.tree({**files, "crates/urb_a/out/rlib/urb_a.rlib": ""}).top
+        (top / "kit/rt").chmod(0o755)
+        with mock.patch.dict(os.environ, {"PATH": str(top / "kit")}):
+            judging.mark_built(top, ["urb_a"])
+        stamp = (top / "crates/urb_a/out/rlib/stamp").read_text()
+        self.assertEqual(stamp, "sum of /crates/urb_a")
+
+    def test_without_a_kit_no_library_is_marked(self) -> None:
+        top = self.tree({"crates/urb_a/out/rlib/urb_a.rlib": ""}).top
+        with mock.patch.dict(os.environ, {"PATH": str(top)}):
+            judging.mark_built(top, ["urb_a"])
+        self.assertFalse((top / "crates/urb_a/out/rlib/stamp").exists())
 
 
 class Reports(JudgingTest):

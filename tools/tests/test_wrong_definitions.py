@@ -7,11 +7,11 @@ import subprocess
 from collections.abc import Sequence
 from unittest import mock
 
-from tools import wrong_definitions
+from tools import judging, wrong_definitions
 from tools.judging import Room, Run, Trial
 from tools.tests.trees import TreeTest
 from tools.tree import Tree
-from tools.wrong_definitions import Listed
+from tools.wrong_definitions import Listed, Row
 
 WORLD = """
     -- A world.
@@ -120,21 +120,34 @@ class Parts(PageTest):
         tree = self.listed(page(SIZE, SIDES, refused=2, same=0)).tree
         chosen = []
         for number in ("0" * 12, "0" * 11 + "1"):
-            with mock.patch.object(wrong_definitions, "PART", 1):
+            with mock.patch.multiple(wrong_definitions, PART=1, PARTS=1):
                 with mock.patch.object(wrong_definitions, "hash_of_crates", lambda _: number):
                     with mock.patch.object(wrong_definitions, "try_parts") as tried:
                         wrong_definitions.main(["--part"], tree)
             chosen.append([row.name for _, rows in tried.call_args[0][1] for row in rows])
         self.assertEqual(chosen, [["Good"], ["first"]])
 
+    def test_the_parts_of_a_run_lie_far_from_each_other(self) -> None:
+        parts: list[tuple[str, list[Row]]] = [(f"urb_{at}", []) for at in range(9)]
+        for digest, expected in (("0" * 12, "0246"), ("0" * 11 + "7", "7024")):
+            chosen = wrong_definitions.chosen_parts(parts, digest)
+            self.assertEqual("".join(crate[-1] for crate, _ in chosen), expected)
+        self.assertEqual(wrong_definitions.chosen_parts(parts[:2], "0" * 12), parts[:2])
+        self.assertEqual(wrong_definitions.chosen_parts([], "0" * 12), [])
+
 
 class Tries(PageTest):
     LIBRARY = {"crates/urb_low/out/rlib/urb_low.rlib": ""}
 
-    def said(self, listed: Listed) -> tuple[int, list[str]]:
+    def setUp(self) -> None:
+        # The libraries of these trees are empty.
+        self.addCleanup(mock.patch.stopall)
+        mock.patch.object(judging, "mark_built").start()
+
+    def said(self, listed: Listed, leaves_out_late: bool = False) -> tuple[int, list[str]]:
         told = io.StringIO()
         with contextlib.redirect_stdout(told):
-            status = wrong_definitions.try_parts(listed, listed.parts())
+            status = wrong_definitions.try_parts(listed, listed.parts(), leaves_out_late)
         return status, told.getvalue().splitlines()
 
     def tried(self, refused: bool, unread: str = "", status: int = 1) -> tuple[int, list[str]]:
@@ -146,7 +159,6 @@ class Tries(PageTest):
                 trial.failed += trial.counting if refused else []
             return Run("some words\nthe last line\n", status)
 
-        self.addCleanup(mock.patch.stopall)
         mock.patch.object(Room, "check", check).start()
         worked = {"crates/urb_a/specs/internal.antt": "", "crates/urb_a/src/worked.rt": ""}
         return self.said(self.listed(page(SIZE, same=0), **self.LIBRARY, **worked, HANDLES=""))
@@ -165,14 +177,17 @@ class Tries(PageTest):
         told = self.tried(refused=False, status=2)[1]
         self.assertIn("the prover gave no answer: the last line", told[-2])
 
-    def test_a_check_that_takes_too_long_fails(self) -> None:
+    def test_a_check_that_takes_too_long_fails_or_is_left_out(self) -> None:
         late = subprocess.TimeoutExpired(["rt"], 1800)
         worked = {"crates/urb_a/specs/internal.antt": "", "crates/urb_a/src/worked.rt": ""}
         listed = self.listed(page(SIZE, same=0), **self.LIBRARY, **worked, HANDLES="")
+        since = "since a check took over 1800 seconds"
         with mock.patch.object(Room, "check", side_effect=late):
-            status, lines = self.said(listed)
-        self.assertEqual((status, lines[-1]), (1, "0 passed, 1 failed"))
-        self.assertIn("the check took over 1800 seconds", lines[-2])
+            failed, left_out = self.said(listed), self.said(listed, leaves_out_late=True)
+        told = [f"wrong definitions: not tried, {since}", "0 passed, 1 failed"]
+        self.assertEqual((failed[0], failed[1][-2:]), (1, told))
+        told = [f"wrong definitions: left out, {since}", "0 passed, 0 failed"]
+        self.assertEqual((left_out[0], left_out[1][-2:]), (0, told))
 
     def test_without_libraries_nothing_is_counted(self) -> None:
         status, lines = self.said(self.listed(page(SIZE, same=0)))
