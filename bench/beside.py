@@ -7,7 +7,7 @@ import statistics
 import subprocess
 import time
 from collections.abc import Iterator, Sequence
-from contextlib import contextmanager
+from contextlib import ExitStack, contextmanager
 from pathlib import Path
 
 from trials.lib.program import LOCALHOST, PATIENCE, wait_until
@@ -17,16 +17,17 @@ MEMBERS = 3  # of etcd
 ELECTION = 3.0  # seconds until the members of etcd have a leader
 
 
-def free_port() -> int:
-    """A TCP port that nobody has."""
-    with socket.create_server((LOCALHOST, 0)) as server:
-        return int(server.getsockname()[1])
+def free_ports(count: int) -> list[int]:
+    """TCP ports that nobody has. No two are the same."""
+    with ExitStack() as stack:
+        servers = [stack.enter_context(socket.create_server((LOCALHOST, 0))) for _ in range(count)]
+        return [int(server.getsockname()[1]) for server in servers]
 
 
 @contextmanager
 def running_redis(folder: Path) -> Iterator[tuple[int, int]]:
     """A redis that syncs each message: the id of its process, and its port."""
-    port = free_port()
+    (port,) = free_ports(1)
     options = {
         "port": port,
         "bind": LOCALHOST,
@@ -58,8 +59,9 @@ def is_open(port: int) -> bool:
 @contextmanager
 def running_etcd(folder: Path) -> Iterator[list[int]]:
     """Members of etcd on loopback, which have a leader: their ports for clients."""
-    ports = [(free_port(), free_port()) for _ in range(MEMBERS)]
-    urls = [[f"http://{LOCALHOST}:{port}" for port in pair] for pair in ports]
+    ports = free_ports(2 * MEMBERS)
+    clients, peers = ports[:MEMBERS], ports[MEMBERS:]
+    urls = [[f"http://{LOCALHOST}:{port}" for port in pair] for pair in zip(clients, peers)]
     cluster = ",".join(f"m{at}={peer}" for at, (_, peer) in enumerate(urls))
     members = []
     try:
@@ -73,7 +75,6 @@ def running_etcd(folder: Path) -> Iterator[list[int]]:
                     ["etcd", *words], stdout=subprocess.DEVNULL, stderr=subprocess.DEVNULL
                 )
             )
-        clients = [port for port, _ in ports]
         wait_until(lambda: all(map(is_open, clients)), "etcd takes connections")
         time.sleep(ELECTION)
         yield clients
