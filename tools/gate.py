@@ -41,7 +41,7 @@ TROUBLE = re.compile(r"fail|refus|error|panic|traceback|killed|not proved|timed 
 FINE = re.compile(r"\.\.\. ok$|^test result: ok|: trying its must-fail edits|, 0 failed$")
 # The number of these lines of a failing command that the end shows again.
 SHOWN_LINES = 40
-# After this many minutes no wrong definition is tried. The program still has to be tried.
+# In minutes. A longer run tries no wrong definition, since the program still has to be tried.
 LONG = 110
 
 
