@@ -157,6 +157,16 @@ def is_wide(line: str) -> bool:
     return len(line) > MOST_COLUMNS and not line.lstrip().startswith("|")
 
 
+def loose_fences(name: str, text: str) -> Iterator[Misfit]:
+    """Fences of code that aren't at the beginning of a line, and one that isn't closed."""
+    fences = [it for it in enumerate(text.splitlines(), 1) if "```" in it[1]]
+    for number, line in fences:
+        if not line.lstrip().startswith("```"):
+            yield Misfit(f"{name}:{number}", "``` stands behind other words of its line")
+    if len(fences) % 2:
+        yield Misfit(f"{name}:{fences[-1][0]}", "``` begins code that has no end")
+
+
 def wide_lines(name: str, text: str) -> Iterator[Misfit]:
     is_fenced = False
     for number, line in enumerate(text.splitlines(), 1):
@@ -166,11 +176,15 @@ def wide_lines(name: str, text: str) -> Iterator[Misfit]:
 
 
 def pages(tree: Tree) -> Iterator[Misfit]:
-    """Each page has few conditional `where`, short sentences and narrow lines. README is short."""
+    """Each page has few conditional `where`, short sentences, narrow lines, closed fences of code.
+
+    README is short.
+    """
     for name in PAGES:
         if not tree.has(name):
             yield Misfit(name, "a page that isn't there")
         text = tree.text_of(name)
+        yield from loose_fences(name, text)
         yield from wide_lines(name, text)
         yield from faults_of(name, prose_of(text))
     if len(tree.text_of("README.md").splitlines()) > MOST_README_LINES:

@@ -36,6 +36,19 @@ class Sentences(unittest.TestCase):
                 self.assertEqual(len(found), count)
 
 
+class Fences(unittest.TestCase):
+    def test_code_ends_on_a_line_of_its_own(self) -> None:
+        cases = {
+            "a\n```\ncode\n```\nb\n": [],
+            "```\ncode```\n": ["page:2"],
+            "```\ncode\n": ["page:1"],
+        }
+        for text, places in cases.items():
+            with self.subTest(text):
+                found = [it.place for it in prose.loose_fences("page", text)]
+                self.assertEqual(found, places)
+
+
 class Texts(unittest.TestCase):
     def texts(self, found: list[prose.Text]) -> list[tuple[int, str]]:
         return [(it.line, it.text) for it in found]
