@@ -21,7 +21,8 @@ def free_ports(count: int) -> list[int]:
     """TCP ports that nobody has. No two are the same."""
     with ExitStack() as stack:
         servers = [stack.enter_context(socket.create_server((LOCALHOST, 0))) for _ in range(count)]
-        return [int(server.getsockname()[1]) for server in servers]
+        ports = [int(server.getsockname()[1]) for server in servers]
+    return ports
 
 
 @contextmanager

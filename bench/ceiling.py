@@ -6,9 +6,8 @@ The floor (floor.c) stores and sends what a group does for a message, and nothin
 takes up to 1, 4, 16 and 64 records together. Beside it stand urbd itself, which keeps up to 16
 records a sync, redis, which syncs what came together once, and three members of etcd, whose clients
 put one value after the other. Each figure is the messages that clients submit a second, the median
-of N rounds (3) of S seconds (2). Then it prints how soon a message is shown at three nodes while
-twelve clients submit, and how long a put of twelve takes. What isn't installed has no figures. The
-files are made below D.
+of N rounds (3) of S seconds (2). What isn't installed has no figures. The files are made below D.
+`bench.crowds` measures how long a submit takes, and how soon a message is shown.
 """
 from __future__ import annotations
 
@@ -25,11 +24,10 @@ from typing import Optional
 from bench.beside import load_of_machine, running_etcd, running_redis
 from bench.daemon import built_etcd_load
 from bench.groups import at_least, duration, new_folder, new_group, program_at, run
-from bench.load import Answer, Floor, Load, answers, begin
+from bench.load import Answer, Floor, Load, Run, answers, begin
 from trials.lib.program import Program, all_ports
 
 TICK = 1_000  # milliseconds
-SHOWN = 60_000  # the number of the client whose messages are shown
 TOGETHER = (1, 4, 16, 64)  # records a sync
 
 
@@ -62,10 +60,6 @@ CROWDS = (
 )
 
 
-# Who submits while it is measured how soon a message is shown.
-UNDER = Crowd(3, 12)
-
-
 @dataclass(frozen=True)
 class Tools:
     """What a measurement takes: the programs, a folder for files, and the seconds of a run."""
@@ -80,11 +74,7 @@ class Tools:
     def of_urbd(self, crowd: Crowd) -> float:
         """Messages a second that a group accepts."""
         with new_group(self.program, self.room, crowd.nodes, TICK) as daemon:
-            runs = [
-                self.load.begin("submit", port, share, self.seconds, under_way=crowd.under_way)
-                for port, share in zip(all_ports(daemon.options), crowd.shares())
-                if share
-            ]
+            runs = begin_submits(self.load, all_ports(daemon.options), crowd, self.seconds)
             return sum(it.rate for it in answers(runs))
 
     def of_floor(self, crowd: Crowd, together: int) -> float:
@@ -104,35 +94,23 @@ class Tools:
         """What clients of etcd put, one value after the other. None if it can't be measured."""
         if self.etcd_load is None or crowd.nodes < 3 or crowd.under_way > 1:
             return None
-        with new_folder(self.room) as folder, running_etcd(folder) as ports:
-            members = ",".join(f"http://127.0.0.1:{port}" for port in ports)
-            return begin([self.etcd_load, crowd.clients, self.seconds, members]).answer()
-
-    def shown(self, crowd: Crowd) -> Answer:
-        """How soon each node shows a message, while this crowd submits others."""
-        with new_group(self.program, self.room, crowd.nodes, TICK) as daemon:
-            ports = all_ports(daemon.options)
-            runs = [
-                self.load.begin("submit", port, share, self.seconds)
-                for port, share in zip(ports, crowd.shares())
-                if share
-            ]
-            shown = self.load.run("visible", ports[0], len(ports), self.seconds, client=SHOWN)
-            answers(runs)
-            return shown
+        return put_into_etcd(self.etcd_load, self.room, crowd.clients, self.seconds)
 
 
-def print_times(tools: Tools, rounds: int) -> None:
-    """How soon a message is shown under a crowd, beside a put of as many clients of etcd."""
-    shown = [tools.shown(UNDER) for _ in range(rounds)]
-    puts = [it for it in (tools.of_etcd(UNDER) for _ in range(rounds)) if it]
-    print(f"microseconds, under {UNDER}: median, 99th percentile")
-    for name, times in (("shown at all nodes", shown), ("a put of etcd", puts)):
-        if times:
-            median, late = (
-                statistics.median(it) for it in zip(*((t.median, t.late) for t in times))
-            )
-            print(f"{name:32}{median:9.0f}{late:9.0f}")
+def begin_submits(load: Load, ports: Sequence[int], crowd: Crowd, seconds: float) -> list[Run]:
+    """A crowd begins to submit at the nodes with these ports."""
+    return [
+        load.begin("submit", port, share, seconds, under_way=crowd.under_way)
+        for port, share in zip(ports, crowd.shares())
+        if share
+    ]
+
+
+def put_into_etcd(etcd_load: Path, room: Path, clients: int, seconds: float) -> Answer:
+    """What so many clients put into three members of etcd."""
+    with new_folder(room) as folder, running_etcd(folder) as ports:
+        members = ",".join(f"http://127.0.0.1:{port}" for port in ports)
+        return begin([etcd_load, clients, seconds, members]).answer()
 
 
 def measure(tools: Tools, rounds: int) -> None:
@@ -172,7 +150,6 @@ def main(words: Sequence[str]) -> int:
         load, floor = Load.built(room), Floor.built(room)
         tools = Tools(given.program, load, floor, etcd_load, room, given.seconds)
         measure(tools, given.rounds)
-        print_times(tools, given.rounds)
     print(f"load: {load_of_machine()}")
     return 0
 

@@ -24,7 +24,7 @@ from dataclasses import dataclass
 from pathlib import Path
 
 from tools.believed import Specs
-from tools.judging import Example, Room, Run, Trial, examples_of
+from tools.judging import Example, Room, Trial, examples_of
 from tools.tree import Misfit, Tree, crates_below
 from tools.weakening import Rules, Version
 
