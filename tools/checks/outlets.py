@@ -38,8 +38,8 @@ HANDS: Mapping[tuple[str, str], int] = {
     ("Sender<Ticket>", "crates/urb_link/src/arrival_queue.rt"): 2,
     ("Sender<Ticket>", "crates/urb_desk/src/desk_queue.rt"): 3,
     ("NodeQueue", "crates/urb_link/src/tick_queue.rt"): 3,
-    # the two offers of a ticket, which the ways in of arrivals and ticks make
-    ("Sender<Ticket>", "crates/urb_link/src/offers.rt"): 2,
+    # the offer of a ticket, which the ways in of arrivals and ticks make
+    ("Sender<Ticket>", "crates/urb_link/src/offers.rt"): 1,
     # the channel of a node's worker: its sender has the node beside it
     ("Sender<Ticket>", "crates/urb_link/src/node_queue.rt"): 2,
     ("NodeQueue", "crates/urb_link/src/node_queue.rt"): 5,

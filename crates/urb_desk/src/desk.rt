@@ -89,7 +89,7 @@ impl<'a, K: HouseName, R: Wait + Clock> NodeDesk<'a, K, R> {
             places,
             readers,
             bell,
-            in_flight,
+            throttle,
             stop,
         } = service;
         let seen = None;
@@ -97,11 +97,10 @@ impl<'a, K: HouseName, R: Wait + Clock> NodeDesk<'a, K, R> {
             rt,
             alloc,
             node,
-            queue: DeskQueue::new(node, queue, places),
+            queue: DeskQueue::new(node, queue, places, throttle),
             service: DeskService {
                 readers,
                 bell,
-                in_flight,
                 stop,
             },
             position,
@@ -279,10 +278,7 @@ impl<'a, K: HouseName, R: Wait + Clock> NodeDesk<'a, K, R> {
         match request {
             Request::Read { place, max } => self.read(*place, *max),
             Request::Wait { place, max, millis } => self.wait(*place, *max, *millis),
-            Request::Submit { .. } => {
-                self.service.in_flight.await_calm(self.rt);
-                self.work(request, behind)
-            }
+            Request::Submit { .. } => self.work(request, behind),
             Request::Ask(_) => self.work(request, &[]),
         }
     }

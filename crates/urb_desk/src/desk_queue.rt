@@ -11,8 +11,9 @@ use crossbeam_channel::{Receiver, Sender};
 use std::alloc::Global;
 use std::marker::Model;
 use std::sync::Wait;
+use std::time::Clock;
 use urb_client::{Control, Request};
-use urb_link::Ticket;
+use urb_link::{Throttle, Ticket};
 use urb_names::{NoMemory, NodeId};
 use urb_show::HouseName;
 use urb_turn::{Finished, Job};
@@ -66,6 +67,7 @@ pub(crate) struct DeskQueue<'a, K: HouseName> {
     node: NodeId,
     sender: &'a Sender<Ticket<K>>,
     places: &'a TicketPlaces,
+    throttle: Throttle<'a>,
 }
 
 impl<'a, K: HouseName> Model for DeskQueue<'a, K> {
@@ -82,6 +84,7 @@ impl<'a, K: HouseName> DeskQueue<'a, K> {
         node: NodeId,
         sender: &'a Sender<Ticket<K>>,
         places: &'a TicketPlaces,
+        throttle: Throttle<'a>,
     ) -> DeskQueue<'a, K>
         ensures { result ≡ node }
     {
@@ -89,6 +92,7 @@ impl<'a, K: HouseName> DeskQueue<'a, K> {
             node,
             sender,
             places,
+            throttle,
         }
     }
 
@@ -100,6 +104,7 @@ impl<'a, K: HouseName> DeskQueue<'a, K> {
             node: self.node,
             sender: self.sender,
             places: self.places,
+            throttle: self.throttle,
         }
     }
 
@@ -170,12 +175,13 @@ impl<'a, K: HouseName> DeskQueue<'a, K> {
     }
 
     /// Sends the worker what a request asks at the node, and returns the result, or the witness that
-    /// the worker is gone. It waits for a place for the ticket, and for the result.
+    /// the worker is gone. It waits for a place for the ticket, and for the result. With a submit it
+    /// also waits while a node of the group is far behind.
     ///
     /// The submits are those that come behind the request. As many of them as find places are sent
     /// before the request is answered, in their order. Their results are put into `later`, the last
     /// one first.
-    pub(crate) fn ask<R: Wait>(
+    pub(crate) fn ask<R: Wait + Clock>(
         &self,
         rt: &R,
         alloc: Global,
@@ -188,6 +194,9 @@ impl<'a, K: HouseName> DeskQueue<'a, K> {
         let most = submits.len().min(MOST_BEHIND);
         let places = self.places.take(rt, most as u32 + 1);
         let behind = places.count() as usize - 1;
+        if matches!(request, Request::Submit { .. }) {
+            self.throttle.await_calm(rt);
+        }
         let came = self.send_all(rt, alloc, request, &submits[..behind], later);
         places.give_back(rt);
         came

@@ -6,7 +6,7 @@
 //! as long as there is a place for it.
 //!
 //! ```text
-//! let service = NodeService { queue, places, readers, bell, in_flight, stop };
+//! let service = NodeService { queue, places, readers, bell, throttle, stop };
 //! let desk = NodeDesk::new(rt, alloc, node, service, position);   // for a client's session
 //! accept_clients(scope, rt, acceptor, desk);                      // on a thread of its own
 //! // at the end: set the stop, and end the inputs of all connections
@@ -49,4 +49,4 @@ pub use desk::NodeDesk;
 pub use node_service::NodeService;
 pub use reader_pool::ReaderPool;
 pub use shared_input::{SharedInput, SharedReader};
-pub use ticket_places::{SESSION_TICKETS, TakenPlaces, TicketPlaces};
+pub use ticket_places::{SESSION_TICKETS, TakenPlaces, TicketPlaces, count_places};

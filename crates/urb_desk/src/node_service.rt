@@ -2,7 +2,7 @@
 
 use crate::{ReaderPool, TicketPlaces};
 use crossbeam_channel::Sender;
-use urb_link::{Bell, InFlight, Stop, Ticket};
+use urb_link::{Bell, Stop, Throttle, Ticket};
 use urb_show::HouseName;
 
 /// What the sessions of one node share.
@@ -16,8 +16,8 @@ pub struct NodeService<'a, K: HouseName> {
     pub readers: &'a ReaderPool<K>,
     /// The bell that rings when the node's log has grown.
     pub bell: &'a Bell,
-    /// What is in flight to the node. While its receiver's backlog is long, submits wait.
-    pub in_flight: &'a InFlight,
+    /// What holds submits back while a node of the group is far behind.
+    pub throttle: Throttle<'a>,
     /// The stop that ends all waits of clients.
     pub stop: &'a Stop,
 }
@@ -27,7 +27,6 @@ pub struct NodeService<'a, K: HouseName> {
 pub(crate) struct DeskService<'a, K: HouseName> {
     pub(crate) readers: &'a ReaderPool<K>,
     pub(crate) bell: &'a Bell,
-    pub(crate) in_flight: &'a InFlight,
     pub(crate) stop: &'a Stop,
 }
 
@@ -37,7 +36,6 @@ impl<'a, K: HouseName> DeskService<'a, K> {
         DeskService {
             readers: self.readers,
             bell: self.bell,
-            in_flight: self.in_flight,
             stop: self.stop,
         }
     }

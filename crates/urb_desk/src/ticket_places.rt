@@ -5,28 +5,51 @@ ghost use Rattle.urb_desk.specs.declared.ticket_places.TheConstants.{SESSION_TIC
 
 use std::sync::{Condvar, Mutex, MutexGuard, Wait};
 
-/// How many tickets of sessions a worker's channel and the worker have at a time.
+/// How many tickets of sessions a worker's channel and the worker have at a time, in a group of one
+/// node. In a group of several nodes they have fewer.
 pub const SESSION_TICKETS: u32 = 32;
+
+/// How many tickets of sessions a worker has at a time, in a group of this many nodes.
+///
+/// If each node takes a submit, about 3 packets come to each worker of two nodes, 9 of three, 18 of
+/// four, and 63 of seven. The channel has room for `2 * SESSION_TICKETS` tickets. So that it holds
+/// submits and packets in the proportion in which they come, submits have their part of it, and two
+/// places at least. With more, a worker would take submits faster than it delivers them.
+pub fn count_places(nodes: usize) -> u32
+    ensures some { 0 < result }
+    ensures most { result ≤ SESSION_TICKETS }
+    ensures alone { nodes ≡ 1 → result ≡ SESSION_TICKETS }
+{
+    match nodes {
+        0 | 1 => SESSION_TICKETS,
+        2 => 16,
+        3 => 6,
+        4 => 3,
+        _ => 2,
+    }
+}
 
 // Places that were taken. They aren't `Drop`, so whoever has them must give them back.
 struct Places {
     count: u32,
 }
 
-// How many places are free.
+// How many places are free, of how many there are.
 #[derive(Drop)]
 struct FreePlaces {
     count: u32,
-    ghost bound: { count ≤ SESSION_TICKETS },
+    all: u32,
+    ghost bound: { count ≤ all },
 }
 
 impl FreePlaces {
     // Takes at most this many places, and one at least. `None` if none is free.
     fn take(&mut self, most: u32) -> Option<Places>
         requires { 0 < most }
-        ensures { MatchOption result ((self.old.count ≡ 0) × (self.new.count ≡ 0))
+        ensures taken { MatchOption result ((self.old.count ≡ 0) × (self.new.count ≡ 0))
             (λ places. (0 < places.count) × (places.count ≡ min self.old.count most)
             × (self.new.count + places.count ≡ self.old.count)) }
+        ensures all { self.new.all ≡ self.old.all }
     {
         if self.count == 0 {
             return None;
@@ -38,17 +61,18 @@ impl FreePlaces {
 
     // Gives places back.
     fn give_back(&mut self, places: Places)
-        ensures { self.new.count ≡ min (self.old.count + places.count) SESSION_TICKETS }
+        ensures free { self.new.count ≡ min (self.old.count + places.count) self.old.all }
+        ensures all { self.new.all ≡ self.old.all }
     {
         let Places { count } = places;
-        let room = SESSION_TICKETS - self.count;
+        let room = self.all - self.count;
         self.count += count.min(room);
     }
 }
 
 /// The places for sessions' tickets. A session takes places before it sends its worker tickets, and
-/// gives them back when the worker has answered. The channel has room for twice as many tickets. So
-/// packets and ticks always find room, however many clients submit.
+/// gives them back when the worker has answered. The channel has room for at least twice as many
+/// tickets. So packets and ticks always find room, however many clients submit.
 #[derive(Drop)]
 pub struct TicketPlaces {
     free: Mutex<FreePlaces>,
@@ -84,12 +108,11 @@ impl<'p> TakenPlaces<'p> {
 }
 
 impl TicketPlaces {
-    /// All places are free.
-    pub fn new() -> TicketPlaces {
+    /// The places at one node of a group of this many nodes. All of them are free.
+    pub fn new(nodes: usize) -> TicketPlaces {
+        let all = count_places(nodes);
         TicketPlaces {
-            free: Mutex::new(FreePlaces {
-                count: SESSION_TICKETS,
-            }),
+            free: Mutex::new(FreePlaces { count: all, all }),
             given_back: Condvar::new(),
         }
     }

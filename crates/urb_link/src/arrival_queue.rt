@@ -4,20 +4,22 @@ ghost use Rattle.std.specs.Prelude.{◌≡◌, [], IfOk, IfSome, MatchOption, dr
 ghost use Rattle.urb_turn.specs.Jobs.{node_of};
 ghost use Rattle.urb_turn.specs.internal.Arrivals.{IsArrival, IsOfFirst};
 
-use crate::offers::{Offered, offer, offer_for_a_moment};
+use crate::offers::{Offered, offer};
 use crate::{Backlog, Spares, Ticket};
 use crossbeam_channel::Sender;
 use std::alloc::{AllocError, Global};
 use std::marker::Model;
 use std::sync::Wait;
+use std::thread;
 use std::time::{Clock, Duration};
 use urb_names::NodeId;
 use urb_show::HouseName;
 use urb_turn::Job;
 
-// How long a receiver waits for room in its worker's channel before it checks its socket again, in
-// milliseconds.
-const MOMENT: u64 = 1;
+// How long a receiver sleeps while its worker's channel is full, in microseconds. Meanwhile the
+// worker takes some of the 64 tickets that it has room for. If the receiver waited in the channel,
+// the worker would wake it for each ticket that it takes.
+const NAP: u64 = 200;
 
 /// A datagram that has come, and that the worker hasn't taken yet. Only a node's `ArrivalQueue` and
 /// what came back of it make one, and nothing can be done with it but to offer its arrival again.
@@ -93,12 +95,12 @@ impl<'a, K: HouseName> ArrivalQueue<'a, K> {
         offer(rt, self.sender, self.ticket_of(arrival))
     }
 
-    /// Offers the worker an arrival again, and waits a millisecond if its channel is full.
+    /// Offers the worker an arrival again, a moment after its channel was full.
     pub(crate) fn offer_again<R: Wait + Clock>(&self, rt: &R, arrival: Arrival) -> Offered<K>
         ensures { IsArrival self.now arrival result.job.value }
     {
-        let ticket = self.ticket_of(arrival);
-        offer_for_a_moment(rt, self.sender, ticket, Duration::from_millis(MOMENT))
+        thread::sleep(rt, Duration::from_micros(NAP));
+        self.offer(rt, arrival)
     }
 
     /// Offers the worker the datagram that has waited longest. `None` if none waits.

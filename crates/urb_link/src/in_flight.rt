@@ -34,20 +34,15 @@ const PAUSE: u64 = 100;
 // How many times a sender checks for room. After that it sends anyway.
 const PATIENCE: u32 = 1_000;
 
-/// How much a receiver's backlog may hold before sessions wait with their submits, in bytes.
-pub const LONG_BACKLOG: u64 = 262_144;
+/// How much a receiver's backlog may hold before sessions wait with their submits, in bytes. So many
+/// bytes are some 520 short datagrams, which a worker does in some twenty milliseconds.
+pub const LONG_BACKLOG: u64 = 65_536;
 
 /// How much a receiver's backlog may hold before nobody waits for room in the node's socket, in
 /// bytes. With more, it has no room for another datagram of the greatest length.
 pub const FULL_BACKLOG: u64 = (BACKLOG - ROOM - KEEPING) as u64;
 
 const _: () = prove!(LONG_BACKLOG < FULL_BACKLOG);
-
-// How long a session sleeps before it checks the backlog again, in milliseconds.
-const REST: u64 = 1;
-
-// How many times a session checks the backlog. After that it submits anyway.
-const LOOKS: u32 = 100;
 
 // The load of a datagram of this length: the length plus `CARRYING`.
 fn load_of(length: usize) -> u64
@@ -85,13 +80,14 @@ fn is_full(backlog: u64) -> bool
 /// that somebody else sent is subtracted too, but never more than the count.
 ///
 /// The receiver also says how much its backlog holds. If that is much, the node's worker can't keep
-/// up with the other nodes. Then the node's sessions wait with their submits. Without that, workers
-/// whose backlogs are full would wait for each other's sockets.
+/// up with the other nodes. Then sessions wait with their submits, as `Throttle` says. Without that,
+/// workers whose backlogs are full would wait for each other's sockets.
 #[derive(Drop)]
 pub struct InFlight {
     load: AtomicU64,
     is_stuck: AtomicBool,
     backlog: AtomicU64,
+    is_left_behind: AtomicBool,
 }
 
 impl InFlight {
@@ -101,6 +97,7 @@ impl InFlight {
             load: AtomicU64::new(0),
             is_stuck: AtomicBool::new(false),
             backlog: AtomicU64::new(0),
+            is_left_behind: AtomicBool::new(false),
         }
     }
 
@@ -174,20 +171,30 @@ impl InFlight {
         self.take_off(seen);
     }
 
-    /// Takes down how much the receiver's backlog holds, in bytes.
+    /// Takes down how much the receiver's backlog holds, in bytes. If that isn't much, sessions of
+    /// other nodes wait for this node again, should it fall behind.
     pub fn keep(&self, backlog: u64) {
         self.backlog.store(backlog, Ordering::SeqCst);
+        if !is_long(backlog) && self.is_left_behind.load(Ordering::SeqCst) {
+            self.is_left_behind.store(false, Ordering::SeqCst);
+        }
     }
 
-    /// Waits while the receiver's backlog is long, so that the worker catches up with the other nodes
-    /// before it takes another submit. It waits for at most a tenth of a second, or somewhat more if
-    /// the machine is busy.
-    pub fn await_calm<R: Clock>(&self, rt: &R) {
-        for _ in 0..LOOKS {
-            if !is_long(self.backlog.load(Ordering::SeqCst)) {
-                break;
-            }
-            thread::sleep(rt, Duration::from_millis(REST));
+    // Whether the node is far behind: its receiver's backlog is long.
+    pub(crate) fn is_behind(&self) -> bool {
+        is_long(self.backlog.load(Ordering::SeqCst))
+    }
+
+    // Whether the node is far behind, and sessions of other nodes wait for it.
+    pub(crate) fn is_awaited(&self) -> bool {
+        self.is_behind() && !self.is_left_behind.load(Ordering::SeqCst)
+    }
+
+    // If the node is far behind, sessions of other nodes wait for it no longer, until its backlog is
+    // short again.
+    pub(crate) fn leave_behind(&self) {
+        if self.is_behind() {
+            self.is_left_behind.store(true, Ordering::SeqCst);
         }
     }
 

@@ -4,15 +4,14 @@ ghost use Rattle.std.specs.Option.{ForSome};
 ghost use Rattle.std.specs.Prelude.{◌≡◌, IfSome};
 
 use crate::Ticket;
-use crossbeam_channel::{SendTimeoutError, Sender, TrySendError};
+use crossbeam_channel::{Sender, TrySendError};
 use std::snapshot::Snapshot;
 use std::sync::Wait;
-use std::time::{Clock, Duration};
 use urb_show::HouseName;
 use urb_turn::Job;
 
-/// The witness that a worker was offered a job. Only `offer` and `offer_for_a_moment` make one, of
-/// the ticket that they gave to the worker's channel. The ticket is back if the channel was full.
+/// The witness that a worker was offered a job. Only `offer` makes one, of the ticket that it gave to
+/// the worker's channel. The ticket is back if the channel was full.
 #[derive(Drop)]
 pub(crate) struct Offered<K: HouseName> {
     job: Snapshot<Job>,
@@ -44,25 +43,6 @@ pub(crate) fn offer<K: HouseName, R: Wait>(
         Err(TrySendError::Full(ticket)) => Some(ticket),
         Err(TrySendError::Disconnected(_lost)) => None,
         Err(TrySendError::OutOfMemory(_lost)) => None,
-    };
-    Offered { job, back }
-}
-
-/// Offers a worker a ticket. The ticket comes back if the channel is still full after this time.
-pub(crate) fn offer_for_a_moment<K: HouseName, R: Wait + Clock>(
-    rt: &R,
-    sender: &Sender<Ticket<K>>,
-    ticket: Ticket<K>,
-    moment: Duration,
-) -> Offered<K>
-    ensures { result.job.value ≡ ticket.job }
-{
-    let job = Snapshot::of(&ticket.job);
-    let back = match sender.send_timeout(rt, ticket, moment) {
-        Ok(()) => None,
-        Err(SendTimeoutError::Timeout(ticket)) => Some(ticket),
-        Err(SendTimeoutError::Disconnected(_lost)) => None,
-        Err(SendTimeoutError::OutOfMemory(_lost)) => None,
     };
     Offered { job, back }
 }

@@ -120,10 +120,10 @@ fn hand_on<K: HouseName, R: Wait>(
 /// It checks the stop after each datagram, so an empty datagram wakes it.
 ///
 /// While the channel is full, it keeps new datagrams in a `Backlog`, says how much that holds
-/// (`InFlight::keep`), and checks the stop each millisecond. Once the backlog is full, datagrams stay
-/// in the socket. Datagrams that still wait when the stop is set are dropped. A datagram is lost if
-/// memory for it is refused. After an error of the socket, the receiver rests for 10 milliseconds
-/// and goes on.
+/// (`InFlight::keep`), and checks the stop five times a millisecond. Once the backlog is full,
+/// datagrams stay in the socket. Datagrams that still wait when the stop is set are dropped. A
+/// datagram is lost if memory for it is refused. After an error of the socket, the receiver rests
+/// for 10 milliseconds and goes on.
 pub fn receive<'s, K: HouseName, R: Wait + Clock>(
     rt: &R,
     alloc: Global,

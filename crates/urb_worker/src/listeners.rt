@@ -17,7 +17,7 @@ use std::time::Clock;
 use urb_desk::{
     ClientLimits, Connections, NodeDesk, NodeService, ReaderPool, Refusals, TicketPlaces,
 };
-use urb_link::{NodeQueue, Station, Stop, TickQueues, Ticking, start_timer};
+use urb_link::{NodeQueue, Station, Stop, Throttle, TickQueues, Ticking, start_timer};
 use urb_names::NoMemory;
 use urb_show::{HouseName, LogReader, ReadPosition};
 use urb_turn::Reporter;
@@ -56,7 +56,7 @@ impl<K: HouseName> SessionRoom<K> {
         let refusals = Refusals::new(alloc)?;
         let mut nodes = Vec::with_capacity(alloc, count)?;
         for _i in 0..count {
-            nodes.push_reserved((Connections::new(alloc, limits)?, TicketPlaces::new()));
+            nodes.push_reserved((Connections::new(alloc, limits)?, TicketPlaces::new(count)));
         }
         Ok(Some(SessionRoom {
             readers: ReaderPool::new(alloc, readers)?,
@@ -92,7 +92,7 @@ fn listener_of<'s, K: HouseName, H: Reporter, R: Wait + Clock>(
         places,
         readers: &room.readers,
         bell: &station.bell,
-        in_flight: &station.in_flight,
+        throttle: Throttle::new(&station.in_flight, setting.stations),
         stop,
     };
     NodeListener {

@@ -11,7 +11,7 @@ use std::sync::Wait;
 use std::sync::ledger::Blank;
 use urb_desk::{NodeService, ReaderPool, TicketPlaces};
 use urb_group::Group;
-use urb_link::{Bell, InFlight, Stop, Ticket};
+use urb_link::{Bell, InFlight, Stop, Throttle, Ticket};
 use urb_names::{ClientId, Config, NodeId, Payload};
 use urb_show::{House, HouseName, LogReader, Opened, ReadPosition};
 use urb_turn::{Hub, HubName, Job, Tally};
@@ -42,6 +42,7 @@ mod spares;
 mod stations;
 mod steps;
 mod strays;
+mod throttles;
 mod time_limits;
 mod timers;
 mod turns;
@@ -106,7 +107,7 @@ fn open_hall<K: HouseName>(
     let mut readers = Vec::new(alloc);
     readers.push(reader).ok()?;
     let hall = Hall {
-        places: TicketPlaces::new(),
+        places: TicketPlaces::new(1),
         readers: ReaderPool::new(alloc, readers).ok()?,
         bell: Bell::new(),
         in_flight: InFlight::new(),
@@ -125,7 +126,7 @@ fn service_of<'a, K: HouseName>(
         places: &hall.places,
         readers: &hall.readers,
         bell: &hall.bell,
-        in_flight: &hall.in_flight,
+        throttle: Throttle::new(&hall.in_flight, &[]),
         stop: &hall.stop,
     }
 }

@@ -78,6 +78,8 @@ pub fn answers_of_a_clients_desk()
         (client_desk false) }
     ensures that_lets_it_crash { AnswersClient shows_none (client_desk false) (Read 1 1) gone
         (client_desk true) → ⊥ }
+    ensures that_may_crash_it_afterwards { AnswersClient shows_none (client_desk false) ask_crash
+        not_taken (client_desk true) → ⊥ }
     ensures to_a_read_that_is_done { AnswersClient shows_none (client_desk false) (Read 1 1) IsDone
         (client_desk false) → ⊥ }
     ensures to_a_crash_that_is_done { AnswersClient shows_none (client_desk false) ask_crash IsDone

@@ -134,7 +134,7 @@ enum Act {
     Withdraw,
 }
 
-/// What came of an act.
+/// The result of an act.
 #[derive(Clone, Copy)]
 enum Met {
     /// The file failed before it.

@@ -1,7 +1,7 @@
 //! Whether a feed is reported as cut: only if memory was refused for one of its packets.
 //!
-//! A test can't refuse memory to a worker, which takes it from `Global`. With `rt try --test
-//! --fail-alloc N`, where the Nth allocation is that of a portion, the count of cuts below is 1.
+//! A test can't refuse memory to a worker, which takes it from `Global`. Run one by `rt try --test
+//! --fail-alloc N`. If the Nth allocation is that of a portion, the count of cuts below is 1.
 
 ghost use Rattle.std.specs.Prelude.{◌≡◌};
 ghost use Rattle.urb_show.specs.Houses.{IsNamed};

@@ -7,8 +7,8 @@ use std::sync::Wait;
 use std::test::Fail;
 use std::time::{Clock, Duration, Instant};
 use urb_link::{
-    BACKLOG, Backlog, CARRYING, FULL_BACKLOG, InFlight, KEEPING, LONG_BACKLOG, Link,
-    MOST_IN_FLIGHT, MemoryLink, PacedLink, Station,
+    BACKLOG, Backlog, CARRYING, FULL_BACKLOG, InFlight, KEEPING, Link, MOST_IN_FLIGHT, MemoryLink,
+    PacedLink, Station,
 };
 use urb_names::{MAX_PACKET, NodeId};
 
@@ -17,9 +17,6 @@ const LONGEST: usize = MAX_PACKET;
 
 // How long a sender waits before it gives up, in milliseconds.
 const WAIT: u64 = 100;
-
-// How long a session waits while the backlog stays long, in milliseconds.
-const CALM: u64 = 100;
 
 // A datagram of this length. All of its bytes have this value.
 fn datagram(alloc: Global, value: u8, length: usize) -> Result<Vec<u8>, Fail> {
@@ -172,24 +169,6 @@ fn nobody_waits_at_a_node_whose_backlog_is_full(rt: HostRuntime) -> Result<(), F
     // None of them waits.
     let took = time_of_sends(&rt, FULL_BACKLOG + 1)?;
     assert!(rt; took < Duration::from_millis(15 * WAIT), "{took:?}");
-    Ok(())
-}
-
-#[test]
-fn a_session_waits_while_the_backlog_is_long(rt: HostRuntime) -> Result<(), Fail> {
-    let flight = InFlight::new();
-    flight.keep(LONG_BACKLOG + 1);
-    let began = Instant::now(&rt)?;
-    flight.await_calm(&rt);
-    let took = began.elapsed(&rt)?;
-    assert!(rt; Duration::from_millis(CALM) <= took, "{took:?}");
-    flight.keep(LONG_BACKLOG);
-    let began = Instant::now(&rt)?;
-    for _ in 0..100u8 {
-        flight.await_calm(&rt);
-    }
-    let took = began.elapsed(&rt)?;
-    assert!(rt; took < Duration::from_millis(50 * CALM), "{took:?}");
     Ok(())
 }
 

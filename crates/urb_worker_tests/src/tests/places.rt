@@ -68,7 +68,19 @@ fn waits_for_a_place<R: Threads + Wait + Clock + Sync>(
 
 #[test]
 fn a_session_waits_for_a_place(rt: HostRuntime) -> Result<(), Fail> {
-    assert!(rt; waits_for_a_place(&rt, &TicketPlaces::new(), SESSION_TICKETS - 1));
+    assert!(rt; waits_for_a_place(&rt, &TicketPlaces::new(1), SESSION_TICKETS - 1));
+    Ok(())
+}
+
+#[test]
+fn a_larger_group_has_fewer_places_at_each_node(rt: HostRuntime) -> Result<(), Fail> {
+    for (nodes, expected) in [(1, 32), (2, 16), (3, 6), (4, 3), (5, 2), (6, 2), (7, 2)] {
+        let places = TicketPlaces::new(nodes);
+        let taken = places.take(&rt, 2 * SESSION_TICKETS);
+        let count = taken.count();
+        taken.give_back(&rt);
+        assert_eq!(rt; count, expected, "{nodes} nodes");
+    }
     Ok(())
 }
 
