@@ -125,6 +125,8 @@ WRITTEN: Written = {
         "crates/urb_names_tests/src/tests/faults.rt": 1,
         "crates/urb_node_tests/src/tests/calls.rt": 1,
         "crates/urb_script_tests/src/worked.rt": 1,
+        "crates/urb_step_examples/specs/internal/WorldExamples.antt": 1,
+        "crates/urb_step_examples/src/worked/kept_worlds.rt": 1,
         "crates/urb_worker_tests/src/tests/limits.rt": 1,
         "crates/urb_world/src/worked/clients.rt": 6,
         "crates/urb_world/src/worked/names.rt": 1,

@@ -1,0 +1,3 @@
+pub mod FrameExamples
+pub mod PacketExamples
+pub mod SetExamples

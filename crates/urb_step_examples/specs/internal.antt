@@ -1,0 +1,4 @@
+pub mod GroupExamples
+pub mod StoreExamples
+pub mod NodeExamples
+pub mod WorldExamples

@@ -1,0 +1,2 @@
+pub mod CallExamples
+pub mod ScriptExamples
