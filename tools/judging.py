@@ -53,6 +53,7 @@ IN_SOURCE = re.compile(r"src/worked/wrong(\d+)_(\w+)\.rt:(\d+):\d+: .*\(`returns
 UNREAD = re.compile(r"specs/internal/Wrong(\d+)_\d+\.antt:\d+:\d+: error:? ?(.*)")
 UNSTATED = re.compile(r"^fn \w+::worked::wrong(\d+)_[\w:]+: no proof: antt did not admit")
 SECONDS = 1800  # that a check may take
+ANSWERS = (0, 1, 3)  # the statuses of a check that says what it proved and what it didn't
 PASSES = ((0, 2), (2, 6), (6, 20))  # which examples a version is tried on, until one refuses it
 MOST_VERSIONS = 40  # tried in one check
 # Files of examples that take long.
@@ -456,6 +457,12 @@ class Run:
     said: str
     status: int
 
+    @property
+    def no_answer(self) -> str:
+        """Why a check said nothing of any version: its last line."""
+        last = self.said.strip().rpartition("\n")[2]
+        return f"the prover gave no answer: {last[:100]}"
+
 
 def run_within(words: Sequence[str], folder: Path, seconds: int) -> Run:
     """Runs a command. If it takes longer, or somebody ends this run, its processes end too."""
@@ -588,11 +595,13 @@ def try_versions(
         left = []
         for at in range(0, len(trials), MOST_VERSIONS):
             batch = trials[at : at + MOST_VERSIONS]
-            room.check(batch, prefix)
+            run = room.check(batch, prefix)
             for trial in batch:
                 judgement = judgement_of(trial)
                 if judgement:
                     yield judgement
+                elif run.status not in ANSWERS:
+                    yield Judgement(trial.number, trial.version, "not tried", run.no_answer)
                 else:
                     left.append((trial.number, trial.version))
     for number, version in left:

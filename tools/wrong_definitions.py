@@ -24,14 +24,13 @@ from dataclasses import dataclass
 from pathlib import Path
 
 from tools.believed import Specs
-from tools.judging import Example, Room, Trial, examples_of
+from tools.judging import ANSWERS, Example, Room, Trial, examples_of
 from tools.tree import Misfit, Tree, crates_below
 from tools.weakening import Rules, Version
 
 PAGE = "docs/WRONG_DEFINITIONS.md"
 PART = 12  # rows of one crate's examples that are tried together
 PARTS = 4  # tried in one run of the gate
-ANSWERS = (0, 1, 3)  # the statuses of a check that says what it proved and what it didn't
 ROW = re.compile(r"\| `([^`]+)`(?: of `(\w+)`)? \| (.+) \| (.+) \|")
 REFUSED = re.compile(r"`(\w+)::(\w+)`, `(\w+)`")
 SAME = "no: it says the same"
@@ -181,13 +180,9 @@ def try_rows(listed: Listed, crate: str, rows: Sequence[Row]) -> Iterator[tuple[
             if trial.unread:
                 yield row, f"the prover can't read it: {trial.unread}"
             elif run.status not in ANSWERS:
-                yield row, f"the prover gave no answer: {last_line(run.said)}"
+                yield row, run.no_answer
             else:
                 yield row, "" if trial.refusers() else "NOT REFUSED"
-
-
-def last_line(text: str) -> str:
-    return text.strip().rpartition("\n")[2][:100]
 
 
 def chosen_parts(

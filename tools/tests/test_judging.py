@@ -323,5 +323,15 @@ class Reports(JudgingTest):
         self.assertEqual(trial.unread, "no such name")
 
 
+class Answers(unittest.TestCase):
+    def test_a_check_without_an_answer_tries_no_version(self) -> None:
+        version, room = mock.Mock(), mock.Mock()
+        room.trial_of.return_value = Trial(version, 1, [mock.Mock()], set())
+        room.check.return_value = judging.Run("a note\nno such library\n", 2)
+        (told,) = judging.try_versions(room, [(1, version)], ())
+        self.assertEqual(told.word, "not tried")
+        self.assertEqual(told.by, "the prover gave no answer: no such library")
+
+
 if __name__ == "__main__":
     unittest.main()
