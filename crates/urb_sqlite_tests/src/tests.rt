@@ -3,6 +3,8 @@
 mod batches;
 mod changes;
 mod closings;
+mod desks;
+mod disks;
 mod files;
 mod first_starts;
 mod folders;
@@ -10,7 +12,6 @@ mod group;
 mod groups;
 mod kept;
 mod leftovers;
-mod places;
 mod pools;
 mod records;
 mod restarts;

@@ -1,15 +1,17 @@
 //! Records that are stored together, or taken out together, also over files in memory that stop or
 //! fail at one of their calls.
 
-use super::kept::{bytes_of, journal_of};
-use super::places::{Place, make_fused_place};
+use super::desks::Desk;
+use super::disks::{Journal, bytes_of, connect, files_of, make_files, open_journal, stop};
+use super::kept::{Bytes, journal_of};
 use super::records::{Form, Kept, Load, TWO};
 use super::steps::{Case, Start, Step};
-use sqlite::Files;
-use sqlite_disk::{Fuse, Memory};
+use sqlite::{Alter, Connection, Files};
+use sqlite_disk::{Disk, Fuse, Memory};
 use std::alloc::Global;
 use std::test::Fail;
 use urb_names::MAX_PAYLOAD;
+use urb_sqlite::SqlStable;
 use urb_stable::StoreFault;
 
 /// A record, and three that are stored together after it.
@@ -157,34 +159,38 @@ impl Act {
     }
 
     // Opens a journal, and stores what it has before the act. Says whether that worked.
-    fn is_begun(self, place: &mut Place<Fuse<Memory>>, rows: &[Kept; 4]) -> bool {
-        place.is_open()
-            && place.store(1, rows[0]) == Some(Ok(()))
+    fn is_begun<S: Alter + Drop>(self, desk: &mut Desk<S>, rows: &[Kept; 4]) -> bool {
+        desk.is_open()
+            && desk.store(1, rows[0]) == Some(Ok(()))
             && match self {
                 Act::Store => true,
-                Act::Withdraw => place.store_all(2, &rows[1..]) == Some(Ok(())),
+                Act::Withdraw => desk.store_all(2, &rows[1..]) == Some(Ok(())),
             }
     }
 
     // What the journal answers.
-    fn run(
+    fn run<S: Alter + Drop>(
         self,
-        place: &mut Place<Fuse<Memory>>,
+        desk: &mut Desk<S>,
         rows: &[Kept; 4],
     ) -> Option<Result<(), StoreFault>> {
         match self {
-            Act::Store => place.store_all(2, &rows[1..]),
-            Act::Withdraw => place.withdraw(3),
+            Act::Store => desk.store_all(2, &rows[1..]),
+            Act::Withdraw => desk.withdraw(3),
         }
     }
 
     // Whether the answer and the journal after it agree. Only a store leaves a record in doubt.
-    fn is_told(self, place: &Place<Fuse<Memory>>, answer: Option<Result<(), StoreFault>>) -> bool {
+    fn is_told<S: Alter + Drop>(
+        self,
+        desk: &Desk<S>,
+        answer: Option<Result<(), StoreFault>>,
+    ) -> bool {
         let (before, after) = self.places();
         match answer {
-            Some(Ok(())) => place.stand() == Some((after, false)),
+            Some(Ok(())) => desk.stand() == Some((after, false)),
             Some(Err(StoreFault::Device)) => {
-                place.stand() == Some((before, matches!(self, Act::Store)))
+                desk.stand() == Some((before, matches!(self, Act::Store)))
             }
             _ => false,
         }
@@ -192,59 +198,101 @@ impl Act {
 
     // Whether the journal that is found has the records after the act, or from before it if it
     // wasn't done.
-    fn is_found(self, place: &mut Place<Fuse<Memory>>, rows: &[Kept; 4], is_done: bool) -> bool {
+    fn is_found<S: Alter + Drop>(
+        self,
+        desk: &mut Desk<S>,
+        rows: &[Kept; 4],
+        is_done: bool,
+    ) -> bool {
         let (before, _) = self.places();
-        match place.stand() {
-            Some((2, false)) => !(is_done && before == 2) && place.holds(&rows[..1]),
-            Some((5, false)) => !(is_done && before == 5) && place.holds(rows),
+        match desk.stand() {
+            Some((2, false)) => !(is_done && before == 2) && desk.holds(&rows[..1]),
+            Some((5, false)) => !(is_done && before == 5) && desk.holds(rows),
             _ => false,
         }
     }
 }
 
-// The journal that is found after this end.
+// Has a journal over a connection do this. Returns what it did, as far as that is known before it
+// is opened again, and the connection.
+fn act_on<S: Alter + Drop>(
+    alloc: Global,
+    conn: Connection<S>,
+    rows: &[Kept; 4],
+    act: Act,
+) -> (Met, Option<Connection<S>>) {
+    let mut desk = Desk::over(alloc, conn);
+    let met = if act.is_begun(&mut desk, rows) {
+        let answer = act.run(&mut desk, rows);
+        match (act.is_told(&desk, answer), answer == Some(Ok(()))) {
+            (true, true) => Met::Done,
+            (true, false) => Met::Refused,
+            _ => Met::Wrong,
+        }
+    } else {
+        Met::Before
+    };
+    (met, desk.into_connection())
+}
+
+// The same over files. They are returned.
+fn act_over<D: Disk + Drop>(
+    alloc: Global,
+    files: Files<D>,
+    rows: &[Kept; 4],
+    act: Act,
+) -> (Met, Option<Files<D>>) {
+    match connect(alloc, files) {
+        Ok(conn) => match act_on(alloc, conn, rows, act) {
+            (met, Some(conn)) => (met, Some(files_of(conn))),
+            (_, None) => (Met::Wrong, None),
+        },
+        Err(files) => (Met::Before, Some(files)),
+    }
+}
+
+// The journal that is found in these files after this end.
 fn open_again(
     alloc: Global,
-    mut place: Place<Fuse<Memory>>,
+    mut files: Files<Fuse<Memory>>,
     end: End,
-) -> Option<Place<Fuse<Memory>>> {
+) -> Option<Journal<Fuse<Memory>>> {
     match end {
         End::Machine => {
-            place.stop();
-            if place.is_open() { Some(place) } else { None }
+            stop(&mut files);
+            open_journal(alloc, files).ok()
         }
         End::Program => {
-            let files = place.files();
-            drop(place);
-            let Files { log, db } = files?;
-            let (log, db) = (bytes_of(alloc, &log)?, bytes_of(alloc, &db)?);
-            let journal = journal_of(alloc, (&log, u64::MAX), (&db, u64::MAX))?;
-            Some(Place::with(alloc, journal))
+            let Bytes { log, db } = bytes_of(alloc, &files)?;
+            journal_of(alloc, (&log, u64::MAX), (&db, u64::MAX))
         }
     }
+}
+
+// What the act did, if the journal that is found agrees.
+fn judge_found<S: Alter + Drop>(
+    alloc: Global,
+    journal: SqlStable<S>,
+    rows: &[Kept; 4],
+    act: Act,
+    met: Met,
+) -> Met {
+    let mut desk = Desk::with(alloc, journal);
+    let is_found = act.is_found(&mut desk, rows, matches!(met, Met::Done));
+    drop(desk);
+    if is_found { met } else { Met::Wrong }
 }
 
 // Has a journal do this, and looks what is found after this end. The log fails after this number of
 // calls.
 fn act_and_end(alloc: Global, rows: &[Kept; 4], act: Act, calls: u64, end: End) -> Met {
-    let mut place = make_fused_place(alloc, calls, u64::MAX);
-    if !act.is_begun(&mut place, rows) {
-        drop(place);
-        return Met::Before;
-    }
-    let answer = act.run(&mut place, rows);
-    let is_done = answer == Some(Ok(()));
-    let is_told = act.is_told(&place, answer);
-    let Some(found) = open_again(alloc, place, end) else {
-        return Met::Wrong;
-    };
-    let mut again = found;
-    let is_found = act.is_found(&mut again, rows, is_done);
-    drop(again);
-    match (is_told && is_found, is_done) {
-        (true, true) => Met::Done,
-        (true, false) => Met::Refused,
-        _ => Met::Wrong,
+    match act_over(alloc, make_files(alloc, calls, u64::MAX), rows, act) {
+        (Met::Before, _) => Met::Before,
+        (Met::Wrong, _) | (_, None) => Met::Wrong,
+        (met, Some(files)) => match open_again(alloc, files, end) {
+            Some(journal) => judge_found(alloc, journal, rows, act, met),
+            None => Met::Wrong,
+        },
     }
 }
 
@@ -255,13 +303,10 @@ fn calls_before(alloc: Global, rows: &[Kept; 4], act: Act) -> u64 {
     let mut high = 1024;
     for _ in 0..10 {
         let middle = u64::saturating_add(low, high) / 2;
-        let mut place = make_fused_place(alloc, middle, u64::MAX);
-        if act.is_begun(&mut place, rows) {
-            high = middle;
-        } else {
-            low = u64::saturating_add(middle, 1);
+        match act_over(alloc, make_files(alloc, middle, u64::MAX), rows, act) {
+            (Met::Before, _) => low = u64::saturating_add(middle, 1),
+            _ => high = middle,
         }
-        drop(place);
     }
     high
 }

@@ -1,11 +1,12 @@
 //! A journal that is closed while its files fail at one of their calls. The tests check what both
 //! files hold afterwards, or the database file alone.
 
-use super::kept::{Bytes, bytes_of, journal_of, write_records};
-use super::places::{Journal, Place};
+use super::desks::Desk;
+use super::disks::{Journal, bytes_of, stop};
+use super::kept::{Bytes, journal_of, write_records};
 use super::records::TWO;
-use sqlite::Files;
-use sqlite_disk::{Crash, Fuse, Memory};
+use sqlite::{Alter, Files};
+use sqlite_disk::{Disk, Fuse, Memory};
 use std::alloc::Global;
 use std::fs;
 use std::rt::HostRuntime;
@@ -13,58 +14,65 @@ use std::test::Fail;
 use urb_sqlite::SqlStable;
 use urb_stable::StoreFault;
 
-/// What a file may hold when the journal is opened again: everything that was written, or only what
-/// was synced.
+/// What the files may hold when the journal is opened again: everything that was written, or only
+/// what was synced.
 #[derive(Drop)]
 struct Left {
-    written: Vec<u8>,
-    synced: Vec<u8>,
+    written: Bytes,
+    synced: Bytes,
 }
 
-fn left_of(alloc: Global, mut file: Fuse<Memory>) -> Option<Left> {
-    let written = bytes_of(alloc, &file)?;
-    file.crash();
-    let synced = bytes_of(alloc, &file)?;
+fn left_of(alloc: Global, mut files: Files<Fuse<Memory>>) -> Option<Left> {
+    let written = bytes_of(alloc, &files)?;
+    stop(&mut files);
+    let synced = bytes_of(alloc, &files)?;
     Some(Left { written, synced })
+}
+
+// Whether the journal has both records.
+fn has_both<S: Alter + Drop>(alloc: Global, journal: SqlStable<S>) -> bool {
+    let mut desk = Desk::with(alloc, journal);
+    let has_both = desk.holds(TWO);
+    drop(desk);
+    has_both
 }
 
 // Whether the journal is found in files with these bytes, and has both records.
 fn is_whole(alloc: Global, log: &[u8], db: &[u8]) -> bool {
     match journal_of(alloc, (log, u64::MAX), (db, u64::MAX)) {
-        Some(journal) => {
-            let mut place = Place::with(alloc, journal);
-            let is_whole = place.holds(TWO);
-            drop(place);
-            is_whole
-        }
+        Some(journal) => has_both(alloc, journal),
         None => false,
     }
 }
 
 // Whether both records are found, even if unsynced writes of either file are lost.
-fn are_whole(alloc: Global, log: &Left, db: &Left) -> bool {
-    is_whole(alloc, &log.written, &db.written)
-        && is_whole(alloc, &log.written, &db.synced)
-        && is_whole(alloc, &log.synced, &db.written)
-        && is_whole(alloc, &log.synced, &db.synced)
+fn are_whole(alloc: Global, left: &Left) -> bool {
+    let (written, synced) = (&left.written, &left.synced);
+    is_whole(alloc, &written.log, &written.db)
+        && is_whole(alloc, &written.log, &synced.db)
+        && is_whole(alloc, &synced.log, &written.db)
+        && is_whole(alloc, &synced.log, &synced.db)
 }
 
 // The same without the log.
-fn is_alone(alloc: Global, db: &Left) -> bool {
-    is_whole(alloc, b"", &db.written) && is_whole(alloc, b"", &db.synced)
+fn is_alone(alloc: Global, left: &Left) -> bool {
+    is_whole(alloc, b"", &left.written.db) && is_whole(alloc, b"", &left.synced.db)
+}
+
+// Closes a journal. Says whether that worked, and returns its files.
+fn close<D: Disk + Drop>(journal: Journal<D>) -> (bool, Files<D>) {
+    match journal.close() {
+        Ok(copied) => (true, copied.into_files()),
+        Err((_fault, files)) => (false, files),
+    }
 }
 
 // Whether a journal is closed without a fault. `None` if what it leaves lacks a record. The records
 // are looked for in both files and, if it was closed, also in the database file alone.
 fn is_closed(alloc: Global, journal: Journal<Fuse<Memory>>) -> Option<bool> {
-    let (is_closed, files) = match journal.close() {
-        Ok(copied) => (true, copied.into_files()),
-        Err((_fault, files)) => (false, files),
-    };
-    let Files { log, db } = files;
-    let log = left_of(alloc, log)?;
-    let db = left_of(alloc, db)?;
-    if are_whole(alloc, &log, &db) && (!is_closed || is_alone(alloc, &db)) {
+    let (is_closed, files) = close(journal);
+    let left = left_of(alloc, files)?;
+    if are_whole(alloc, &left) && (!is_closed || is_alone(alloc, &left)) {
         Some(is_closed)
     } else {
         None
@@ -116,14 +124,22 @@ const FILE: &str = "urb_sqlite_closing/node-1.db";
 
 const LOG: &str = "urb_sqlite_closing/node-1.db-wal";
 
+// Stores both records. Says whether that worked, and returns the journal.
+fn store_both<S: Alter + Drop>(
+    alloc: Global,
+    journal: SqlStable<S>,
+) -> (bool, Option<SqlStable<S>>) {
+    let mut desk = Desk::with(alloc, journal);
+    let are_stored = desk.store(1, TWO[0]) == Some(Ok(())) && desk.store(2, TWO[1]) == Some(Ok(()));
+    let journal = desk.take();
+    drop(desk);
+    (are_stored, journal)
+}
+
 // Why a journal in a real file can't be closed: two records are stored, and then another program
 // empties its log.
 fn fault_of(rt: &HostRuntime) -> Option<StoreFault> {
-    let mut place = Place::with(rt.alloc(), SqlStable::open(rt, FILE).ok()?);
-    let are_stored = place.store(1, TWO[0]) == Some(Ok(()))
-        && place.store(2, TWO[1]) == Some(Ok(()));
-    let journal = place.take();
-    drop(place);
+    let (are_stored, journal) = store_both(rt.alloc(), SqlStable::open(rt, FILE).ok()?);
     let is_emptied = fs::write(rt, LOG, b"").is_ok();
     match journal?.close_at(rt, FILE) {
         Err(fault) if are_stored && is_emptied => Some(fault),

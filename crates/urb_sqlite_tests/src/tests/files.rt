@@ -1,10 +1,10 @@
 //! A journal in a real file. It is closed and opened again, damaged, and written by stock SQLite.
 
-use super::places::Place;
+use super::desks::Desk;
 use super::records::{Form, Load, TWO};
 use super::steps::{Step, play};
 use super::tables::{THIRD, THREE};
-use sqlite::Connection;
+use sqlite::{Alter, Connection};
 use std::alloc::Global;
 use std::fs;
 use std::rt::HostRuntime;
@@ -83,15 +83,25 @@ fn is_written(rt: &HostRuntime) -> bool {
     }
 }
 
+// Whether a journal answers each step as expected, and the journal.
+fn play_over<S: Alter + Drop>(
+    alloc: Global,
+    journal: SqlStable<S>,
+    steps: &[Step],
+) -> (bool, Option<SqlStable<S>>) {
+    let mut desk = Desk::with(alloc, journal);
+    let is_played = play(&mut desk, steps).is_none();
+    let journal = desk.take();
+    drop(desk);
+    (is_played, journal)
+}
+
 /// Whether the journal at this path answers each step as expected.
 pub fn is_played(rt: &HostRuntime, path: &str, steps: &[Step], is_closed: bool) -> bool {
     let Ok(journal) = SqlStable::open(rt, path) else {
         return false;
     };
-    let mut place = Place::with(rt.alloc(), journal);
-    let is_played = play(&mut place, steps).is_none();
-    let journal = place.take();
-    drop(place);
+    let (is_played, journal) = play_over(rt.alloc(), journal, steps);
     match journal {
         Some(journal) if is_closed => is_played && journal.close_at(rt, path).is_ok(),
         _ => is_played,

@@ -1,16 +1,18 @@
 //! A first start that was stopped, and files of older programs: what an opening finds in them, and
 //! the size of their pages.
 
+use super::desks::Desk;
 use super::leftovers::{
     BEGUN, BEGUN_BEFORE, Content, EMPTY, FILE, Left, NONE, PAGE, PAGE_BEFORE, is_left, is_made,
 };
-use super::places::Place;
 use super::records::{Form, Kept, Load, TWO};
+use sqlite::Alter;
+use std::alloc::Global;
 use std::fs;
 use std::marker::Brand;
 use std::rt::HostRuntime;
 use std::test::Fail;
-use urb_sqlite::{FolderClaim, NodeClaim, NodeFile, close_node, open_node};
+use urb_sqlite::{FolderClaim, NodeClaim, NodeDisk, NodeFile, SqlStable, close_node, open_node};
 use urb_stable::StoreFault;
 
 const FOLDER: &str = "urb_sqlite_first";
@@ -216,24 +218,45 @@ fn first_claim() -> Option<NodeClaim<NodeFile<Brand>>> {
     claims.take_next()
 }
 
+// Whether a journal is at this position. If records are given, it has these, and takes one more.
+// The journal is returned.
+fn judge_opened<S: Alter + Drop>(
+    alloc: Global,
+    journal: SqlStable<S>,
+    kept: Option<&[Kept]>,
+    next: u32,
+) -> (bool, Option<SqlStable<S>>) {
+    let mut desk = Desk::with(alloc, journal);
+    let mut is_so = desk.stand() == Some((next, false));
+    if let Some(kept) = kept {
+        is_so = is_so && desk.holds(kept) && desk.store(next, MORE) == Some(Ok(()));
+    }
+    let journal = desk.take();
+    drop(desk);
+    (is_so, journal)
+}
+
 // Whether node 1's journal opens at this position, and can be closed. If records are given, it has
 // these, and takes one more.
-fn is_opened(rt: &HostRuntime, kept: Option<&[Kept]>, next: u32) -> bool {
-    let Some(claim) = first_claim() else {
-        return false;
-    };
+fn is_opened_by<D: NodeDisk>(
+    rt: &HostRuntime,
+    claim: NodeClaim<D>,
+    kept: Option<&[Kept]>,
+    next: u32,
+) -> bool {
     let Ok(journal) = open_node(rt, FILE, claim) else {
         return false;
     };
-    let mut place = Place::with(rt.alloc(), journal);
-    let mut is_so = place.stand() == Some((next, false));
-    if let Some(kept) = kept {
-        is_so = is_so && place.holds(kept) && place.store(next, MORE) == Some(Ok(()));
+    match judge_opened(rt.alloc(), journal, kept, next) {
+        (is_so, Some(journal)) => close_node(rt, FILE, journal).is_ok() && is_so,
+        _ => false,
     }
-    let journal = place.take();
-    drop(place);
-    match journal {
-        Some(journal) => close_node(rt, FILE, journal).is_ok() && is_so,
+}
+
+// The same for the type of files that programs use.
+fn is_opened(rt: &HostRuntime, kept: Option<&[Kept]>, next: u32) -> bool {
+    match first_claim() {
+        Some(claim) => is_opened_by(rt, claim, kept, next),
         None => false,
     }
 }
@@ -296,16 +319,21 @@ static BAD: [(&'static str, u32); 3] = [
 ];
 
 // Whether the journal is refused because of this row.
-fn is_refused(rt: &HostRuntime, place: u32) -> bool {
-    let Some(claim) = first_claim() else {
-        return false;
-    };
+fn is_refused_by<D: NodeDisk>(rt: &HostRuntime, claim: NodeClaim<D>, place: u32) -> bool {
     match open_node(rt, FILE, claim) {
         Ok(journal) => {
             drop(journal);
             false
         }
         Err(fault) => fault == StoreFault::BadRow(place),
+    }
+}
+
+// The same for the type of files that programs use.
+fn is_refused(rt: &HostRuntime, place: u32) -> bool {
+    match first_claim() {
+        Some(claim) => is_refused_by(rt, claim, place),
+        None => false,
     }
 }
 

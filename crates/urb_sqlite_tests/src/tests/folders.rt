@@ -2,16 +2,13 @@
 
 use super::files::{is_damaged, is_played};
 use super::group::{DELIVERY, Event, REPEAT, Said, Told, run, three};
-use super::places::Journal;
 use super::records::{Form, Kept, Load, record_of};
 use super::steps::Step;
-use sqlite_disk::Disk;
 use std::alloc::Global;
 use std::fs;
-use std::marker::Brand;
 use std::rt::HostRuntime;
 use std::test::Fail;
-use urb_sqlite::{FolderClaim, NodeFile, close_nodes, open_nodes};
+use urb_sqlite::{FolderClaim, NodeDisk, close_nodes, open_nodes};
 use urb_stable::{Stable, StoreFault};
 
 const FOLDER: &str = "urb_sqlite_folder";
@@ -133,21 +130,15 @@ static DAMAGES: [(&'static str, Damage, Said); 18] = [
     ("nodes 1 and 3", Damage::Exchanged(THREE), Said::Unsent),
 ];
 
-// What the group over these journals says about the events, and the journals. The proof is of
-// files of any kind: over files with a long name it takes too long.
-fn run_journals<D: Disk + Drop>(
-    alloc: Global,
-    journals: Vec<Journal<D>>,
+// What the group over the files of this claim says about the events. Its journals are closed.
+fn run_over_claimed<D: NodeDisk>(
+    rt: &HostRuntime,
+    claim: FolderClaim<D>,
     events: &[Event],
-) -> (Vec<Journal<D>>, Said) {
-    run(alloc, journals, events)
-}
-
-// What the group over the files says about the events. Its journals are closed.
-fn run_over_files(rt: &HostRuntime, events: &[Event]) -> Said {
-    match open_nodes::<NodeFile<Brand>>(rt, FOLDER, three(), FolderClaim::new()) {
+) -> Said {
+    match open_nodes(rt, FOLDER, three(), claim) {
         Ok(journals) => {
-            let (journals, said) = run_journals(rt.alloc(), journals, events);
+            let (journals, said) = run(rt.alloc(), journals, events);
             if close_nodes(rt, FOLDER, journals).is_ok() {
                 said
             } else {
@@ -156,6 +147,11 @@ fn run_over_files(rt: &HostRuntime, events: &[Event]) -> Said {
         }
         Err((node, fault)) => Said::Fault(node.number(), fault),
     }
+}
+
+// The same for the type of files that programs use.
+fn run_over_files(rt: &HostRuntime, events: &[Event]) -> Said {
+    run_over_claimed(rt, FolderClaim::new(), events)
 }
 
 // Whether the group says so twice.
@@ -196,19 +192,23 @@ fn is_right(rt: &HostRuntime, (sql, damage, wanted): &(&str, Damage, Said)) -> b
     is_whole && is_so
 }
 
+// Whether the journals of new files are opened and closed.
+fn are_made<D: NodeDisk>(rt: &HostRuntime, claim: FolderClaim<D>) -> bool {
+    match open_nodes(rt, FOLDER, three(), claim) {
+        Ok(journals) => close_nodes(rt, FOLDER, journals).is_ok(),
+        Err(_) => false,
+    }
+}
+
 #[test]
 fn a_file_that_is_new_has_small_pages(rt: HostRuntime) -> Result<(), Fail> {
     let _ = fs::remove_dir_all(&rt, FOLDER);
     fs::create_dir(&rt, FOLDER)?;
-    let Ok(journals) = open_nodes::<NodeFile<Brand>>(&rt, FOLDER, three(), FolderClaim::new())
-    else {
-        return Err(Fail::new(format_args!("they do not open")));
-    };
-    let is_closed = close_nodes(&rt, FOLDER, journals).is_ok();
+    let are_made = are_made(&rt, FolderClaim::new());
     let bytes = fs::read(&rt, ONE)?;
     fs::remove_dir_all(&rt, FOLDER)?;
     // The page size is in bytes 16 and 17, the higher one first.
-    if !is_closed || bytes.get(16) != Some(&4) || bytes.get(17) != Some(&0) {
+    if !are_made || bytes.get(16) != Some(&4) || bytes.get(17) != Some(&0) {
         return Err(Fail::new(format_args!("pages of another size")));
     }
     Ok(())
@@ -265,8 +265,8 @@ fn are_stored<S: Stable<Alloc = Global>>(alloc: Global, stores: &mut [S]) -> boo
 }
 
 // Whether a group's journals are opened, store a record each, and are closed.
-fn are_closed(rt: &HostRuntime) -> bool {
-    match open_nodes::<NodeFile<Brand>>(rt, "urb_sqlite_nodes", three(), FolderClaim::new()) {
+fn are_closed<D: NodeDisk>(rt: &HostRuntime, claim: FolderClaim<D>) -> bool {
+    match open_nodes(rt, "urb_sqlite_nodes", three(), claim) {
         Ok(mut journals) => {
             let are_stored = are_stored(rt.alloc(), &mut journals);
             close_nodes(rt, "urb_sqlite_nodes", journals).is_ok() && are_stored
@@ -279,7 +279,7 @@ fn are_closed(rt: &HostRuntime) -> bool {
 fn each_node_has_a_file_of_its_own(rt: HostRuntime) -> Result<(), Fail> {
     let _ = fs::remove_dir_all(&rt, "urb_sqlite_nodes");
     fs::create_dir(&rt, "urb_sqlite_nodes")?;
-    let mut is_so = are_closed(&rt);
+    let mut is_so = are_closed(&rt, FolderClaim::new());
     for (_, path, log, steps) in &OWN {
         is_so = is_so && fs::metadata(&rt, log).is_err() && is_played(&rt, path, steps, false);
     }

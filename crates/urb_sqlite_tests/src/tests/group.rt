@@ -198,6 +198,20 @@ fn judge_refusal(refusal: Refusal) -> Said {
     }
 }
 
+/// A list of three stores. `None`: one is missing, or memory was refused.
+pub fn list_of<S: Drop>(
+    alloc: Global,
+    one: Option<S>,
+    two: Option<S>,
+    three: Option<S>,
+) -> Option<Vec<S>> {
+    let mut stores = Vec::new(alloc);
+    stores.push(one?).ok()?;
+    stores.push(two?).ok()?;
+    stores.push(three?).ok()?;
+    Some(stores)
+}
+
 /// What the group over these stores says about the events, and the stores.
 pub fn run<S: Stable<Alloc = Global> + Drop>(
     alloc: Global,

@@ -1,11 +1,16 @@
 //! A stop of the machine at each call of each node's two files, for new files and for files from
 //! before there were two tables.
 
-use super::group::{DELIVERY, Event, REPEAT, Said, Told, deliver_and_reopen, run};
-use super::places::{Journal, Place, make_fused_place};
+use super::desks::Desk;
+use super::disks::{
+    Journal, are_spent, connect, files_of, leave, make_files, open_journal, open_over, stop,
+};
+use super::group::{DELIVERY, Event, REPEAT, Said, Told, deliver_and_reopen, list_of, run};
+use sqlite::{Alter, Connection, Files};
 use sqlite_disk::{Crash, Disk, Fuse, Memory};
 use std::alloc::Global;
 use std::test::Fail;
+use urb_stable::Stable;
 
 /// A file from before there were two tables. Node 1 has stored its first message there.
 const OLD: &str = "CREATE TABLE journal(pos INTEGER PRIMARY KEY, kind INTEGER NOT NULL, \
@@ -23,87 +28,122 @@ struct Case {
     least: u64,
 }
 
-// The places of the nodes, with new files. The case's file fails after the given number of calls.
-fn places(alloc: Global, case: Case, calls: u64) -> Option<Vec<Place<Fuse<Memory>>>> {
-    let mut places = Vec::new(alloc);
-    for node in 0..3 {
-        let log = if node == case.node && case.is_log {
-            calls
-        } else {
-            u64::MAX
-        };
-        let db = if node == case.node && !case.is_log {
-            calls
-        } else {
-            u64::MAX
-        };
-        places.push(make_fused_place(alloc, log, db)).ok()?;
+/// The files of the three nodes.
+#[derive(Drop)]
+struct Nodes<D: Disk + Drop> {
+    one: Files<D>,
+    two: Files<D>,
+    three: Files<D>,
+}
+
+// How many calls the log and the database file of a node take, the node being counted from 0.
+fn calls_of(case: Case, node: usize, calls: u64) -> (u64, u64) {
+    if node != case.node {
+        (u64::MAX, u64::MAX)
+    } else if case.is_log {
+        (calls, u64::MAX)
+    } else {
+        (u64::MAX, calls)
     }
-    Some(places)
 }
 
-// Whether an old file is written.
-fn is_old<D: Disk + Drop>(place: &mut Place<D>) -> bool {
-    let is_old = place.is_connected() && place.is_done(OLD, 0);
-    place.release();
-    is_old
+// New files of a node. The case's file fails after the given number of calls.
+fn make_node(alloc: Global, case: Case, node: usize, calls: u64) -> Files<Fuse<Memory>> {
+    let (log, db) = calls_of(case, node, calls);
+    make_files(alloc, log, db)
 }
 
-// Whether each node's files become its journal. After one that fails, the others are not tried.
-fn are_open<D: Disk + Drop>(places: &mut [Place<D>]) -> bool {
-    for place in places {
-        if !place.is_open() {
-            return false;
-        }
+// New files of all nodes.
+fn make_nodes(alloc: Global, case: Case, calls: u64) -> Nodes<Fuse<Memory>> {
+    Nodes {
+        one: make_node(alloc, case, 0, calls),
+        two: make_node(alloc, case, 1, calls),
+        three: make_node(alloc, case, 2, calls),
     }
-    true
 }
 
-// The same by one call for each node.
-fn are_opened<D: Disk + Drop>(places: &mut [Place<D>]) -> bool {
-    for place in places {
-        if !place.is_opened() {
-            return false;
-        }
+// Writes an old file over a connection. Says whether that worked, and returns the connection.
+fn write_old<S: Alter + Drop>(alloc: Global, conn: Connection<S>) -> (bool, Option<Connection<S>>) {
+    let mut desk = Desk::over(alloc, conn);
+    let is_old = desk.is_done(OLD, 0);
+    (is_old, desk.into_connection())
+}
+
+// The same over files. They are returned.
+fn write_old_over<D: Disk + Drop>(alloc: Global, files: Files<D>) -> (bool, Option<Files<D>>) {
+    match connect(alloc, files) {
+        Ok(conn) => match write_old(alloc, conn) {
+            (is_old, Some(conn)) => (is_old, Some(files_of(conn))),
+            (_, None) => (false, None),
+        },
+        Err(files) => (false, Some(files)),
     }
-    true
 }
 
-// The journals of all nodes, in order.
-fn take_journals<D: Disk + Drop>(
+// What the group over these stores says, and the stores.
+fn run_three<S: Stable<Alloc = Global> + Drop>(
     alloc: Global,
-    places: &mut [Place<D>],
-) -> Option<Vec<Journal<D>>> {
-    let mut journals = Vec::new(alloc);
-    for place in places {
-        journals.push(place.take()?).ok()?;
-    }
-    Some(journals)
-}
-
-// The journals return to their nodes, the last one first.
-fn give_back<D: Disk + Drop>(places: &mut [Place<D>], mut journals: Vec<Journal<D>>) {
-    for _ in 0..3 {
-        if let Some(journal) = journals.pop() {
-            if let Some(place) = places.get_mut(journals.len()) {
-                place.put(journal);
-            }
-        }
+    one: S,
+    two: S,
+    three: S,
+    events: &[Event],
+) -> (Said, Option<(S, S, S)>) {
+    let Some(stores) = list_of(alloc, Some(one), Some(two), Some(three)) else {
+        return (Said::Other, None);
+    };
+    let (mut stores, said) = run(alloc, stores, events);
+    match (stores.pop(), stores.pop(), stores.pop()) {
+        (Some(three), Some(two), Some(one)) => (said, Some((one, two, three))),
+        _ => (said, None),
     }
 }
 
-// What the group over these places says.
-fn run_at_places<D: Disk + Drop>(alloc: Global, places: &mut [Place<D>], events: &[Event]) -> Said {
-    if !are_open(places) {
-        return Said::Refused;
+// What the group over these journals says, and the files of the journals.
+fn run_journals<D: Disk + Drop>(
+    alloc: Global,
+    one: Journal<D>,
+    two: Journal<D>,
+    three: Journal<D>,
+    events: &[Event],
+) -> (Said, Option<Nodes<D>>) {
+    match run_three(alloc, one, two, three, events) {
+        (said, Some((one, two, three))) => (
+            said,
+            Some(Nodes {
+                one: leave(one),
+                two: leave(two),
+                three: leave(three),
+            }),
+        ),
+        (said, None) => (said, None),
     }
-    match take_journals(alloc, places) {
-        Some(journals) => {
-            let (journals, said) = run(alloc, journals, events);
-            give_back(places, journals);
-            said
+}
+
+// What the group over these files says, and the files. After a journal that isn't opened, the
+// others are not tried.
+fn run_over<D: Disk + Drop>(
+    alloc: Global,
+    nodes: Nodes<D>,
+    events: &[Event],
+) -> (Said, Option<Nodes<D>>) {
+    let Nodes { one, two, three } = nodes;
+    let one = match open_journal(alloc, one) {
+        Ok(one) => one,
+        Err(one) => return (Said::Refused, Some(Nodes { one, two, three })),
+    };
+    let two = match open_journal(alloc, two) {
+        Ok(two) => two,
+        Err(two) => {
+            let one = leave(one);
+            return (Said::Refused, Some(Nodes { one, two, three }));
         }
-        None => Said::Other,
+    };
+    match open_journal(alloc, three) {
+        Ok(three) => run_journals(alloc, one, two, three, events),
+        Err(three) => {
+            let (one, two) = (leave(one), leave(two));
+            (Said::Refused, Some(Nodes { one, two, three }))
+        }
     }
 }
 
@@ -134,9 +174,36 @@ fn is_begun(before: [bool; 3], after: [bool; 3]) -> bool {
 }
 
 // The machine stops.
-fn stop<D: Crash + Drop>(places: &mut [Place<D>]) {
-    for place in places {
-        place.stop();
+fn stop_all<D: Crash + Drop>(nodes: &mut Nodes<D>) {
+    stop(&mut nodes.one);
+    stop(&mut nodes.two);
+    stop(&mut nodes.three);
+}
+
+// Whether the case's file has taken all its calls.
+fn is_spent<D: Disk + Drop>(nodes: &mut Nodes<D>, case: Case) -> bool {
+    match case.node {
+        0 => are_spent(&mut nodes.one),
+        1 => are_spent(&mut nodes.two),
+        _ => are_spent(&mut nodes.three),
+    }
+}
+
+// What the group says before the stop, and the files. If the case says so, node 1's file is an old
+// one.
+fn run_first<D: Disk + Drop>(
+    alloc: Global,
+    nodes: Nodes<D>,
+    case: Case,
+) -> (Said, Option<Nodes<D>>) {
+    if !case.is_old {
+        return run_over(alloc, nodes, &DELIVERY);
+    }
+    let Nodes { one, two, three } = nodes;
+    match write_old_over(alloc, one) {
+        (true, Some(one)) => run_over(alloc, Nodes { one, two, three }, &DELIVERY),
+        (false, Some(one)) => (Said::Refused, Some(Nodes { one, two, three })),
+        (_, None) => (Said::Other, None),
     }
 }
 
@@ -145,17 +212,15 @@ fn stop<D: Crash + Drop>(places: &mut [Place<D>]) {
 // holds after it.
 fn run_stop_and_rerun<D: Crash + Drop>(
     alloc: Global,
-    places: &mut [Place<D>],
+    nodes: Nodes<D>,
     case: Case,
 ) -> Option<(bool, bool)> {
-    let before = if case.is_old && !is_old(places.first_mut()?) {
-        Said::Refused
-    } else {
-        run_at_places(alloc, places, &DELIVERY)
-    };
-    let is_spent = places.get_mut(case.node)?.is_spent();
-    stop(places);
-    let after = run_at_places(alloc, places, &REPEAT);
+    let (before, nodes) = run_first(alloc, nodes, case);
+    let mut nodes = nodes?;
+    let is_spent = is_spent(&mut nodes, case);
+    stop_all(&mut nodes);
+    let (after, nodes) = run_over(alloc, nodes, &REPEAT);
+    drop(nodes);
     Some((is_stopped(before, after, case.is_old)?, is_spent))
 }
 
@@ -164,10 +229,7 @@ fn run_stop_and_rerun<D: Crash + Drop>(
 fn count_stopped_runs(alloc: Global, case: Case) -> Option<u64> {
     let mut met = 0;
     for calls in 0..400 {
-        let mut places = places(alloc, case, calls)?;
-        let outcome = run_stop_and_rerun(alloc, &mut places, case);
-        drop(places);
-        match outcome? {
+        match run_stop_and_rerun(alloc, make_nodes(alloc, case, calls), case)? {
             (_, false) => return Some(met),
             (true, true) => met = u64::saturating_add(met, 1),
             (false, true) => {}
@@ -241,22 +303,22 @@ fn what_was_told_outlives_each_stop(rt: HostRuntime) -> Result<(), Fail> {
     Ok(())
 }
 
-// What is left after a stop of all nodes over these places' journals, after a delivery. The journals
-// stay open.
-fn deliver_over<D: Disk + Drop>(alloc: Global, places: Vec<Place<D>>) -> Option<Told> {
-    let mut places = places;
-    let journals = if are_opened(&mut places) {
-        take_journals(alloc, &mut places)
-    } else {
-        None
-    };
-    drop(places);
-    deliver_and_reopen(alloc, journals?)
+// What is left after a stop of all nodes over these stores, after a delivery.
+fn deliver_on<S: Stable<Alloc = Global> + Drop>(
+    alloc: Global,
+    one: Option<S>,
+    two: Option<S>,
+    three: Option<S>,
+) -> Option<Told> {
+    deliver_and_reopen(alloc, list_of(alloc, one, two, three)?)
 }
 
-// The same over new places.
-fn deliver_at_places_and_reopen(alloc: Global) -> Option<Told> {
-    deliver_over(alloc, places(alloc, CASES[0], u64::MAX)?)
+// The same over the journals in these files, which one call for each opens. The journals stay open.
+fn deliver_over<D: Disk + Drop>(alloc: Global, nodes: Nodes<D>) -> Option<Told> {
+    let Nodes { one, two, three } = nodes;
+    let one = open_over(alloc, one, 1);
+    let two = open_over(alloc, two, 1);
+    deliver_on(alloc, one, two, open_over(alloc, three, 1))
 }
 
 #[test]
@@ -267,5 +329,8 @@ fn journals_bring_a_group_back(rt: HostRuntime) {
         is_same: true,
         is_down: false,
     };
-    assert_eq!(rt; deliver_at_places_and_reopen(rt.alloc()), Some(wanted));
+    assert_eq!(rt;
+        deliver_over(rt.alloc(), make_nodes(rt.alloc(), CASES[0], u64::MAX)),
+        Some(wanted)
+    );
 }

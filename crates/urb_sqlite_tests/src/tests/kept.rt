@@ -1,8 +1,9 @@
 //! The bytes of a journal's two files, and a journal over files in memory with such bytes.
 
-use super::places::{Journal, make_fused_place};
+use super::desks::Desk;
+use super::disks::{Journal, bytes_of, files_of, files_with, make_files, open_over};
 use super::records::Kept;
-use sqlite::{Files, Options};
+use sqlite::{Alter, Connection, Files};
 use sqlite_disk::{Disk, Fuse, Memory};
 use std::alloc::Global;
 use urb_sqlite::SqlStable;
@@ -14,38 +15,34 @@ pub struct Bytes {
     pub db: Vec<u8>,
 }
 
-/// The bytes of a file in memory.
-pub fn bytes_of(alloc: Global, file: &Fuse<Memory>) -> Option<Vec<u8>> {
-    Vec::from_slice(alloc, file.inner().bytes()).ok()
+// Stores the records of these rows in a new journal. Says whether it took them, and returns its
+// connection.
+fn store_rows<S: Alter + Drop>(
+    alloc: Global,
+    journal: SqlStable<S>,
+    rows: &[Kept],
+) -> (bool, Option<Connection<S>>) {
+    let mut desk = Desk::with(alloc, journal);
+    let mut are_stored = true;
+    for (at, row) in rows.iter().enumerate() {
+        let position = u32::saturating_add(u32::try_from(at).unwrap_or(u32::MAX), 1);
+        are_stored = are_stored && desk.store(position, *row) == Some(Ok(()));
+    }
+    (are_stored, desk.into_connection())
 }
 
-/// The bytes that a new journal with these records leaves in its files.
-pub fn write_records(alloc: Global, rows: &[Kept]) -> Option<Bytes> {
-    let mut place = make_fused_place(alloc, u64::MAX, u64::MAX);
-    let mut are_stored = place.is_opened();
-    for (at, row) in rows.iter().enumerate() {
-        let position = u32::try_from(at).ok()?.checked_add(1)?;
-        are_stored = are_stored && place.store(position, *row) == Some(Ok(()));
-    }
-    let files = place.files();
-    drop(place);
-    match files {
-        Some(Files { log, db }) if are_stored => Some(Bytes {
-            log: bytes_of(alloc, &log)?,
-            db: bytes_of(alloc, &db)?,
-        }),
+// The files of a new journal with these records.
+fn store_over<D: Disk + Drop>(alloc: Global, files: Files<D>, rows: &[Kept]) -> Option<Files<D>> {
+    match store_rows(alloc, open_over(alloc, files, 1)?, rows) {
+        (true, Some(conn)) => Some(files_of(conn)),
         _ => None,
     }
 }
 
-// A file in memory with these bytes, which fails after the given number of calls.
-fn file_of(alloc: Global, bytes: &[u8], calls: u64) -> Option<Fuse<Memory>> {
-    let mut file = Memory::new(alloc);
-    if file.may_be_used() && file.write_at(0, bytes).is_ok() && file.sync().is_ok() {
-        Some(Fuse::new(file, calls))
-    } else {
-        None
-    }
+/// The bytes that a new journal with these records leaves in its files.
+pub fn write_records(alloc: Global, rows: &[Kept]) -> Option<Bytes> {
+    let files = store_over(alloc, make_files(alloc, u64::MAX, u64::MAX), rows)?;
+    bytes_of(alloc, &files)
 }
 
 /// The journal in files with these bytes, each of which fails after the given number of calls.
@@ -54,12 +51,5 @@ pub fn journal_of(
     log: (&[u8], u64),
     db: (&[u8], u64),
 ) -> Option<Journal<Fuse<Memory>>> {
-    let files = Files {
-        log: file_of(alloc, log.0, log.1)?,
-        db: file_of(alloc, db.0, db.1)?,
-    };
-    if !files.may_be_used() {
-        return None;
-    }
-    SqlStable::open_files(alloc, files, Options::new(2)).ok()
+    open_over(alloc, files_with(alloc, log, db)?, 2)
 }

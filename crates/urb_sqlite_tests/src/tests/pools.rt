@@ -2,11 +2,12 @@
 
 use super::kept::{journal_of, write_records};
 use super::records::{Form, Kept, Load, are_kept};
+use sqlite::Alter;
 use std::alloc::{Allocator, Global};
 use std::sync::Arc;
 use urb_names::{ClientId, MAX_PAYLOAD, Message, Name, NodeId};
 use urb_refusing::Refusing;
-use urb_sqlite::MessagePool;
+use urb_sqlite::{MessagePool, SqlStable};
 use urb_stable::{Record, Stable};
 
 // What the pool gives to a journal that has this payload under the name 1.1. `None`: memory was
@@ -94,10 +95,14 @@ fn a_refused_growth_leaves_the_pool_as_it_was(rt: HostRuntime) {
 
 // The payload of the first record of a journal that holds these rows, which reads them with the
 // pool. `None` if it reads others.
-fn payload_read(alloc: Global, pool: &Arc<MessagePool>, rows: &[Kept]) -> Option<Message> {
-    let bytes = write_records(alloc, rows)?;
-    let mut journal = journal_of(alloc, (&bytes.log, u64::MAX), (&bytes.db, u64::MAX))?;
-    journal.share_with(Arc::try_clone(pool).ok()?);
+fn first_payload<S: Alter + Drop>(
+    alloc: Global,
+    journal: SqlStable<S>,
+    pool: Arc<MessagePool>,
+    rows: &[Kept],
+) -> Option<Message> {
+    let mut journal = journal;
+    journal.share_with(pool);
     let mut records = journal.retrieve(alloc).ok()?;
     drop(journal);
     if !are_kept(alloc, &records, rows) {
@@ -107,6 +112,16 @@ fn payload_read(alloc: Global, pool: &Arc<MessagePool>, rows: &[Kept]) -> Option
     match records.pop() {
         Some(Record::Pend(_, message)) | Some(Record::PendCert(_, message)) => Some(message),
         _ => None,
+    }
+}
+
+// The same of a new journal.
+fn payload_read(alloc: Global, pool: &Arc<MessagePool>, rows: &[Kept]) -> Option<Message> {
+    let bytes = write_records(alloc, rows)?;
+    let pool = Arc::try_clone(pool).ok()?;
+    match journal_of(alloc, (&bytes.log, u64::MAX), (&bytes.db, u64::MAX)) {
+        Some(journal) => first_payload(alloc, journal, pool, rows),
+        None => None,
     }
 }
 

@@ -2,11 +2,13 @@
 
 use super::batches::TOGETHER;
 use super::changes::{BAD, GOOD, OVER_BOTH};
-use super::places::{Place, make_fused_place};
+use super::desks::Desk;
+use super::disks::{connect, make_files};
 use super::records::{Form, Kept, Load};
 use super::stores::STORES;
 use super::tables::{BOTH, OLD, OLD_FILES, OTHERS};
 use super::withdrawals::WITHDRAWN;
+use sqlite::{Alter, Connection, Files};
 use sqlite_disk::Disk;
 use std::alloc::Global;
 use std::test::Fail;
@@ -62,40 +64,40 @@ const STORED: &[Step] = &[
 ];
 
 // Whether the connection stays, twice, and SQL shows one row before and after.
-fn is_refused<D: Disk + Drop>(place: &mut Place<D>, sql: &str) -> bool {
+fn is_refused<S: Alter + Drop>(desk: &mut Desk<S>, sql: &str) -> bool {
     for _ in 0..2 {
-        if place.rows(sql) != Some(1) || place.adopt() != Some(Err(StoreFault::Device)) {
+        if desk.rows(sql) != Some(1) || desk.adopt() != Some(Err(StoreFault::Device)) {
             return false;
         }
     }
-    place.rows(sql) == Some(1)
+    desk.rows(sql) == Some(1)
 }
 
 // Whether the step answers as expected.
-fn is_right<D: Disk + Drop>(place: &mut Place<D>, step: Step) -> bool {
+fn is_right<S: Alter + Drop>(desk: &mut Desk<S>, step: Step) -> bool {
     match step {
-        Step::Adopt(wanted) => place.adopt() == Some(wanted),
+        Step::Adopt(wanted) => desk.adopt() == Some(wanted),
         Step::Leave => {
-            place.leave();
+            desk.leave();
             true
         }
-        Step::Store(at, row, wanted) => place.store(at, row) == Some(wanted),
-        Step::StoreAll(at, rows, wanted) => place.store_all(at, rows) == Some(wanted),
-        Step::Withdraw(count, wanted) => place.withdraw(count) == Some(wanted),
-        Step::Holds(rows) => place.holds(rows),
-        Step::Stands(next, is_doubtful) => place.stand() == Some((next, is_doubtful)),
-        Step::Sql(sql, count) => place.is_done(sql, count),
-        Step::Shows(sql, count) => place.rows(sql) == Some(count),
-        Step::Refused(sql) => is_refused(place, sql),
+        Step::Store(at, row, wanted) => desk.store(at, row) == Some(wanted),
+        Step::StoreAll(at, rows, wanted) => desk.store_all(at, rows) == Some(wanted),
+        Step::Withdraw(count, wanted) => desk.withdraw(count) == Some(wanted),
+        Step::Holds(rows) => desk.holds(rows),
+        Step::Stands(next, is_doubtful) => desk.stand() == Some((next, is_doubtful)),
+        Step::Sql(sql, count) => desk.is_done(sql, count),
+        Step::Shows(sql, count) => desk.rows(sql) == Some(count),
+        Step::Refused(sql) => is_refused(desk, sql),
     }
 }
 
 /// Plays steps. Returns the number of the first one, from 1, that answers something else.
-pub fn play<D: Disk + Drop>(place: &mut Place<D>, steps: &[Step]) -> Option<usize> {
+pub fn play<S: Alter + Drop>(desk: &mut Desk<S>, steps: &[Step]) -> Option<usize> {
     let mut number = 0;
     for step in steps {
         number = usize::saturating_add(number, 1);
-        if !is_right(place, *step) {
+        if !is_right(desk, *step) {
             return Some(number);
         }
     }
@@ -112,20 +114,30 @@ fn steps_before(start: Start) -> &'static [Step] {
     }
 }
 
-// Plays a case over new files in memory. Returns the number of its first step, from 1, that answers
-// something else. It is 0 if a step of its start does.
-fn play_case(alloc: Global, (_, start, sql, steps): &Case) -> Option<usize> {
-    let mut place = make_fused_place(alloc, u64::MAX, u64::MAX);
-    let is_begun = place.is_connected()
-        && play(&mut place, steps_before(*start)).is_none()
-        && place.is_changed(sql);
+// Plays a case over a connection to new files. Returns the number of its first step, from 1, that
+// answers something else. It is 0 if a step of its start does.
+fn play_case<S: Alter + Drop>(
+    alloc: Global,
+    conn: Connection<S>,
+    (_, start, sql, steps): &Case,
+) -> Option<usize> {
+    let mut desk = Desk::over(alloc, conn);
+    let is_begun = play(&mut desk, steps_before(*start)).is_none() && desk.is_changed(sql);
     let failing = if is_begun {
-        play(&mut place, steps)
+        play(&mut desk, steps)
     } else {
         Some(0)
     };
-    drop(place);
+    drop(desk);
     failing
+}
+
+// The same over the files.
+fn play_over<D: Disk + Drop>(alloc: Global, files: Files<D>, case: &Case) -> Option<usize> {
+    match connect(alloc, files) {
+        Ok(conn) => play_case(alloc, conn, case),
+        Err(_) => Some(0),
+    }
 }
 
 #[test]
@@ -135,7 +147,11 @@ fn each_step_is_answered_as_it_is_to(rt: HostRuntime) -> Result<(), Fail> {
     ];
     for table in tables {
         for case in table {
-            if let Some(step) = play_case(rt.alloc(), case) {
+            if let Some(step) = play_over(
+                rt.alloc(),
+                make_files(rt.alloc(), u64::MAX, u64::MAX),
+                case,
+            ) {
                 let (name, _, sql, _) = case;
                 return Err(Fail::new(format_args!("{name} {sql}: step {step}")));
             }
