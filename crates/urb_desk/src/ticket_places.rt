@@ -9,12 +9,12 @@ use std::sync::{Condvar, Mutex, MutexGuard, Wait};
 /// node. In a group of several nodes they have fewer.
 pub const SESSION_TICKETS: u32 = 32;
 
-/// How many tickets of sessions a worker has at a time, in a group of this many nodes.
+/// The most tickets that sessions have at one worker, in a group with `nodes` nodes.
 ///
 /// If each node takes a submit, about 3 packets come to each worker of two nodes, 9 of three, 18 of
-/// four, and 63 of seven. The channel has room for `2 * SESSION_TICKETS` tickets. So that it holds
-/// submits and packets in the proportion in which they come, submits have their part of it, and two
-/// places at least. With more, a worker would take submits faster than it delivers them.
+/// four, and 63 of seven. The channel has room for `2 * SESSION_TICKETS` tickets. Submits get a part
+/// of it that is as large as their share of all tickets, and two places at least. If they had more, a
+/// worker would take submits faster than it delivers them.
 pub fn count_places(nodes: usize) -> u32
     ensures some { 0 < result }
     ensures most { result ≤ SESSION_TICKETS }
@@ -108,7 +108,7 @@ impl<'p> TakenPlaces<'p> {
 }
 
 impl TicketPlaces {
-    /// The places at one node of a group of this many nodes. All of them are free.
+    /// The places at one node of a group with `nodes` nodes. All of them are free.
     pub fn new(nodes: usize) -> TicketPlaces {
         let all = count_places(nodes);
         TicketPlaces {

@@ -34,8 +34,8 @@ const PAUSE: u64 = 100;
 // How many times a sender checks for room. After that it sends anyway.
 const PATIENCE: u32 = 1_000;
 
-/// How much a receiver's backlog may hold before sessions wait with their submits, in bytes. So many
-/// bytes are some 520 short datagrams, which a worker does in some twenty milliseconds.
+/// How much a receiver's backlog may hold before sessions wait with their submits, in bytes. Some 520
+/// short datagrams have this size. A worker does them in some twenty milliseconds.
 pub const LONG_BACKLOG: u64 = 65_536;
 
 /// How much a receiver's backlog may hold before nobody waits for room in the node's socket, in

@@ -10,7 +10,7 @@ use Rattle.urb_names.specs.PacketGrammar.{Fields}
 abbrev pub message : ℕ → ℕ → String → Content
 message client number letters = record { client = client; number = number; payload = codes letters }
 
--- the first message of client 7, with this many bytes of payload
+-- the first message of client 7, with a payload of `size` bytes
 abbrev pub long : ℕ → Content
 long size = record { client = 7; number = 1; payload = replicate size 120 }
 

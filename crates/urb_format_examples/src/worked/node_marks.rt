@@ -1,4 +1,4 @@
-//! Which nodes are marked for which names.
+//! Worked examples of marks: the nodes that are marked for a name.
 ghost use Rattle.std.specs.Prelude.{[], ◌∷◌, ◌≡◌, None};
 ghost use Rattle.urb_names.specs.Names.{name};
 ghost use Rattle.urb_window.specs.Marks.{IsMarkSet, with_room};

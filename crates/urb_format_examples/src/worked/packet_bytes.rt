@@ -56,7 +56,7 @@ pub fn packets_in_bytes()
     ensures fields_of_a_packet { judged telling_fields ≡ Ok telling }
 {}
 
-/// The first fault of bytes. A packet's own bytes have none.
+/// The first fault of bytes. A packet's own bytes have no fault.
 pub fn first_faults()
     ensures of_no_bytes { IsFirstFault [] fault.Short }
     ensures of_a_whole_header { IsFirstFault plain_bytes fault.Short → ⊥ }

@@ -9,7 +9,7 @@ use urb_sqlite::SqlStable;
 
 pub type Journal<D> = SqlStable<FileStore<D>>;
 
-/// New files in memory, each of which fails after the given number of calls.
+/// New files in memory. Each one fails after the given number of calls.
 pub fn make_files(alloc: Global, log: u64, db: u64) -> Files<Fuse<Memory>> {
     Files {
         log: Fuse::new(Memory::new(alloc), log),
@@ -27,7 +27,7 @@ fn file_of(alloc: Global, bytes: &[u8], calls: u64) -> Option<Fuse<Memory>> {
     }
 }
 
-/// Files with these bytes, each of which fails after the given number of calls.
+/// Files with these bytes. Each one fails after the given number of calls.
 pub fn files_with(
     alloc: Global,
     log: (&[u8], u64),
@@ -101,7 +101,7 @@ fn adopt<S: Alter + Drop>(
     }
 }
 
-/// The journal over a connection to these files. They are returned if there is none.
+/// The journal over a connection to these files. The files are returned if no journal opens.
 pub fn open_journal<D: Disk + Drop>(
     alloc: Global,
     files: Files<D>,

@@ -1,4 +1,4 @@
--- A reader gets the whole log: each list is the front of what is left.
+-- A reader gets the whole log: each list begins the rest of it.
 use Rattle.std.proofs.Common.{List, [], ap, append_assoc, arith, drop, drop_at, flat_map, length}
 use Rattle.std.proofs.Common.{length-take, refl, sym, take}
 use Rattle.std.proofs.Common.{take-append-drop, ℕ, ◌++◌, ◌<◌, ◌∙◌, ◌∷◌, ◌≡◌}
@@ -8,7 +8,7 @@ use Rattle.urb_names.specs.LabelsAndContents.{Content, Label}
 use Rattle.urb_client.specs.Pages.{ReadsOn}
 use Rattle.urb_format_examples.proofs.worked.client_pages.what_a_reader_gets.Goals as goal
 
--- nothing is left if a page of one entry or more has none
+-- if a page with room for an entry is empty, the rest of the log is empty
 nothing-left : (max : ℕ) (log : List (Label × Content)) → 0 < max → take max log ≡ [] → log ≡ []
 nothing-left max log some none =
     nil_from_length log (omega (arith, some, ap length none, length-take max log))

@@ -1,4 +1,4 @@
--- Where there are no bytes, there is no frame, and a silent desk writes nothing and doesn't change.
+-- Without bytes there is no frame, and a silent desk writes nothing and doesn't change.
 use Rattle.std.proofs.Common.{List, [], ap, arith, inl, inr, length, length-append, refl, sym, ℕ}
 use Rattle.std.proofs.Common.{◌++◌, ◌<◌, ◌∙◌, ◌∷◌, ◌≡◌}
 use Rattle.urb_client.specs.Responses.{frame}

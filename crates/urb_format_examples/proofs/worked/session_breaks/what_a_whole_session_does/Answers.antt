@@ -1,4 +1,4 @@
--- One byte is no frame, and where there are no events, the desk doesn't change.
+-- One byte is no frame. If there are no events, the desk doesn't change.
 use Rattle.std.proofs.Common.{List, [], ap, arith, length, length-append, ℕ, ◌∷◌, ◌≡◌}
 use Rattle.urb_client.specs.Sessions.{Begins, Event, Replies}
 use Rattle.urb_format_examples.specs.internal.FrameExamples.{counts}
