@@ -16,10 +16,13 @@ use urb_names::NodeId;
 use urb_show::HouseName;
 use urb_turn::Job;
 
-// How long a receiver sleeps while its worker's channel is full, in microseconds. Meanwhile the
-// worker takes some of the 64 tickets that it has room for. If the receiver waited in the channel,
-// the worker would wake it for each ticket that it takes.
+// How long a receiver sleeps while its worker's channel is full, or has many tickets, in
+// microseconds. Meanwhile the worker takes some of the 64 tickets that it has room for. If the
+// receiver waited in the channel, the worker would wake it for each ticket that it takes.
 const NAP: u64 = 200;
+
+// How many tickets are so many that the worker still has some after a nap.
+const MANY: usize = 12;
 
 /// A datagram that has come, and that the worker hasn't taken yet. Only a node's `ArrivalQueue` and
 /// what came back of it make one, and nothing can be done with it but to offer its arrival again.
@@ -93,6 +96,14 @@ impl<'a, K: HouseName> ArrivalQueue<'a, K> {
         ensures { IsArrival self.now arrival result.job.value }
     {
         offer(rt, self.sender, self.ticket_of(arrival))
+    }
+
+    /// Sleeps for a moment if the worker has many tickets to do. Datagrams that come meanwhile wait
+    /// in the socket, so the system needn't wake the receiver for each.
+    pub(crate) fn nap_if_busy<R: Wait + Clock>(&self, rt: &R) {
+        if MANY <= self.sender.len() {
+            thread::sleep(rt, Duration::from_micros(NAP));
+        }
     }
 
     /// Offers the worker an arrival again, a moment after its channel was full.

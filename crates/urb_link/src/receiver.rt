@@ -123,7 +123,7 @@ fn hand_on<K: HouseName, R: Wait>(
 /// (`InFlight::keep`), and checks the stop five times a millisecond. Once the backlog is full,
 /// datagrams stay in the socket. Datagrams that still wait when the stop is set are dropped. A
 /// datagram is lost if memory for it is refused. After an error of the socket, the receiver rests
-/// for 10 milliseconds and goes on.
+/// for 10 milliseconds and goes on. While the worker has many tickets, it naps between datagrams.
 pub fn receive<'s, K: HouseName, R: Wait + Clock>(
     rt: &R,
     alloc: Global,
@@ -157,6 +157,8 @@ pub fn receive<'s, K: HouseName, R: Wait + Clock>(
         };
         if refused.is_some() || station.in_flight.is_crowded() {
             catch_up(&receiver, &mut room, refused);
+        } else {
+            receiver.queue.nap_if_busy(rt);
         }
         if let Some(seen) = stop.seen() {
             station.in_flight.give_up();

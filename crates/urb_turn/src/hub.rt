@@ -18,6 +18,7 @@ use crate::counting::tally::{HubName, Tally};
 use crate::loans::copy_moment;
 use crate::{Finished, Job};
 use std::alloc::Global;
+use std::hint::spin_loop;
 use std::sync::ledger::Blank;
 use std::sync::{Mutex, MutexGuard, Wait};
 use urb_feed::Feed;
@@ -50,7 +51,24 @@ pub struct Hub<K: HouseName, L: HubName> {
     tallied: Mutex<CountedHouse<K, L>>,
 }
 
+// How many times a worker tries to get the House before it sleeps. Another worker has it for a few
+// microseconds at a time, and these tries take about ten. To sleep and be woken takes longer, and
+// keeps a processor busy too. A worker doesn't yield between tries: if there are more workers than
+// processors, one that yields gets too few turns.
+const TRIES: u32 = 300;
+
 impl<K: HouseName, L: HubName> Hub<K, L> {
+    // The House, once no other worker has it.
+    fn enter<R: Wait>(&self, rt: &R) -> MutexGuard<'_, CountedHouse<K, L>> {
+        for _ in 0..TRIES {
+            if let Some(tallied) = self.tallied.try_lock() {
+                return tallied;
+            }
+            spin_loop();
+        }
+        self.tallied.lock(rt)
+    }
+
     /// Makes a Hub of the House, and a tally for each node's worker. If memory is refused, the
     /// House is returned.
     #[tactic(auto, using(crate::proofs::LastLoans::begin_push, crate::proofs::LastLoans::all_rest_at_first, crate::proofs::LastLoans::events_push))]
@@ -120,7 +138,7 @@ impl<K: HouseName, L: HubName> Hub<K, L> {
             return (Finished::misrouted(job), tally);
         }
         let mut tally = tally;
-        let mut tallied = self.tallied.lock(rt);
+        let mut tallied = self.enter(rt);
         let turn = tallied.begin(alloc, node, job, &mut tally);
         if turn.is_stored() {
             let done = tallied.finish(rt, alloc, node, turn, &mut tally);
@@ -132,7 +150,7 @@ impl<K: HouseName, L: HubName> Hub<K, L> {
             gate.before_store(node);
         }
         let turn = turn.store(alloc, store);
-        let mut tallied = self.tallied.lock(rt);
+        let mut tallied = self.enter(rt);
         let finished = tallied.finish(rt, alloc, node, turn, &mut tally);
         MutexGuard::unlock(tallied);
         (finished, tally)
@@ -171,7 +189,7 @@ impl<K: HouseName, L: HubName> Hub<K, L> {
             → IsStoreSince S.Stable start result.0.last node store.new }
     {
         let mut tally = tally;
-        let mut tallied = self.tallied.lock(rt);
+        let mut tallied = self.enter(rt);
         let (mut records, refused) = tallied.foresee(alloc, node, calls);
         if records.len() < LEAST_AHEAD {
             MutexGuard::unlock(tallied);
@@ -189,7 +207,7 @@ impl<K: HouseName, L: HubName> Hub<K, L> {
     pub fn begin_feed<R: Wait>(&self, rt: &R, node: NodeId) -> Feed
         ensures { IsFeedOf node result }
     {
-        let tallied = self.tallied.lock(rt);
+        let tallied = self.enter(rt);
         let feed = tallied.begin_feed(node);
         MutexGuard::unlock(tallied);
         feed
@@ -207,7 +225,7 @@ impl<K: HouseName, L: HubName> Hub<K, L> {
         ensures ok { IfOk result (λ packets. IsNextPortion feed.old feed.new packets.items) }
         ensures err { OnErr result (feed.new ≡ feed.old) }
     {
-        let tallied = self.tallied.lock(rt);
+        let tallied = self.enter(rt);
         let made = tallied.next_portion(alloc, feed);
         MutexGuard::unlock(tallied);
         match made {
