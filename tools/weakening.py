@@ -95,10 +95,16 @@ class Block:
         return is_relation or any(RELATION.search(it) or PARAMETER.search(it) for it in rights)
 
 
+def margin_of(text: str) -> int:
+    """How many spaces the first line of a text begins with."""
+    first = text.partition("\n")[0]
+    return len(first) - len(first.lstrip())
+
+
 def without_margin(text: str) -> tuple[str, str]:
     """A text without the margin of its first line, and that margin."""
     lines = text.split("\n")
-    margin = lines[0][: len(lines[0]) - len(lines[0].lstrip())]
+    margin = lines[0][: margin_of(text)]
     cut = [line[len(margin) :] if line.startswith(margin) else line for line in lines]
     return "\n".join(cut), margin
 
@@ -133,7 +139,7 @@ def block_of(text: str) -> Block | None:
         end = next((at for at, line in enumerate(lines) if line.rstrip().endswith("where")), None)
         if end is None or "data " in lines[0]:
             return None
-        fields = groups_of(lines[end + 1 :], 2)
+        fields = groups_of(lines[end + 1 :], margin_of("\n".join(lines[end + 1 :])))
         if not all(FIELD.match(it) for it in fields):
             return None
         return Block("\n".join(lines[: end + 1]), fields=tuple(fields))
@@ -287,7 +293,7 @@ class Rules:
         size = size_in(block)
         if size and block.fields and self.is_claim(" ".join(block.fields)):
             limit = f"{size} ≤ {FEW_NODES}"
-            added = replace(block, fields=(f"  pub few : {limit}", *block.fields))
+            added = replace(block, fields=(few_field(block, limit), *block.fields))
             yield "few", "false of four nodes", added, ("◌≤◌",)
             yield "few", "says nothing of four nodes", self.limited(block, limit), ("◌≤◌",)
         if size and block.is_claim:
@@ -375,6 +381,13 @@ def with_field(block: Block, at: int, text: str) -> Block:
     fields = list(block.fields)
     fields[at] = text
     return replace(block, fields=tuple(fields))
+
+
+def few_field(block: Block, limit: str) -> str:
+    """A field of a record that says this of its number of nodes."""
+    names = {field.group(2) for field in map(FIELD.match, block.fields) if field}
+    name = "few_nodes" if "few" in names else "few"
+    return " " * margin_of(block.fields[0]) + f"pub {name} : {limit}"
 
 
 def with_case(block: Block, at: int, right: str) -> Block:

@@ -31,6 +31,13 @@ WORLD = """
           → w.stored p ≡ w.stored p
       pub no_twice : w.size ≡ w.size
 
+    -- few nodes, in a record whose fields stand further in
+    pub record IsFew (w : World) : Type 0
+      where
+        pub few : w.size.n ≤ 2
+        pub known : (p : ℕ) → IsKnown w p
+            → p ≡ p
+
     -- the node is known
     abbrev pub IsKnown : World → ℕ → Type 0
     IsKnown w p = (w.size ≡ w.size) × (p ≡ p)
@@ -151,6 +158,16 @@ class Making(WeakeningTest):
         rights = [it.rpartition(" p = ")[2] for it in self.texts("IsKnown", "few")]
         body = "((w.size ≡ w.size) × (p ≡ p))"
         self.assertEqual(rights, [f"(w.size.n ≤ 3) × {body}", f"w.size.n ≤ 3 → {body}"])
+
+    def test_fields_may_stand_further_in(self) -> None:
+        few, known = self.texts("IsFew", "unit")
+        claim = "(p : ℕ) → IsKnown w p → p ≡ p"
+        self.assertTrue(few.endswith(f"where pub few : Unit {{0}} pub known : {claim}"))
+        self.assertTrue(known.endswith("where pub few : w.size.n ≤ 2 pub known : Unit {0}"))
+        (text,) = [it.text for it in self.versions("IsFew") if it.what == "false of four nodes"]
+        lines = [line.rstrip() for line in text.split("\n")]
+        added = ["    pub few_nodes : w.size.n ≤ 3", "    pub few : w.size.n ≤ 2"]
+        self.assertEqual(lines[2:4], added)
 
     def test_a_type_that_is_left_out_is_no_world(self) -> None:
         false, _ = self.texts("IsIn", "few")

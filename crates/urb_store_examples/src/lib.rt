@@ -1,4 +1,5 @@
-//! Worked examples of stores: what a store keeps, gives back and refuses.
+//! Worked examples of stores: what a store keeps, gives back and refuses. And of the counter by
+//! which an allocator, a reader or a writer fails in tests.
 //!
 //! No program calls these functions. A wrong definition makes one of their clauses false, and then
 //! the prover refuses it.

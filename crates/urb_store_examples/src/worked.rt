@@ -3,6 +3,7 @@
 
 pub mod ahead_views;
 pub mod answers;
+pub mod fuses;
 pub mod given_records;
 pub mod kept_drafts;
 pub mod kept_tails;
