@@ -2,22 +2,28 @@
 use Rattle.std.specs.Prelude.{List, ℕ, ◌≡◌}
 use Rattle.urb_feed.specs.Feeds.{FeedView, IsPortion, whole_feed}
 use Rattle.urb_group.specs.GroupViews.{GroupView, IsSound, Shows}
+use Rattle.urb_world.specs.Step.{Event}
 use Rattle.urb_world.specs.World.{World}
 use Rattle.urb_names.specs.CarriedPackets.{Carried}
-use Rattle.urb_show.specs.Houses.{HouseView}
+use Rattle.urb_show.specs.Pasts.{IsLedTo}
 
 -- a feed of node n that has done nothing, and will go through all names of this group
 pub record BeginsFeed (group : GroupView) (n : ℕ) (feed : FeedView) : Type 0 where
   pub sound : IsSound group
   pub whole : (w : World) → Shows group w → feed ≡ whole_feed w n
 
--- the same, of the group in a House that the worker has borrowed
-pub record IsFeedOf (n : ℕ) (feed : FeedView) : Type 0 where
-  pub lent : HouseView
-  pub begins : BeginsFeed lent.group n feed
+-- the same, of a group to which a history led from the opened one
+pub record IsFeedOf (opened : GroupView) (n : ℕ) (feed : FeedView) : Type 0 where
+  pub past : List Event
+  pub group : GroupView
+  pub leads : IsLedTo opened past group
+  pub begins : BeginsFeed group n feed
 
--- a portion of a feed, of the group in a House that the worker has borrowed
-pub record IsNextPortion (old new : FeedView) (packets : List Carried) : Type 0 where
-  pub lent : HouseView
-  pub sound : IsSound lent.group
-  pub portion : IsPortion lent.group old new packets
+-- a portion of a feed, of a group to which a history led from the opened one
+pub record IsNextPortion (opened : GroupView) (old new : FeedView) (packets : List Carried) : Type 0
+  where
+    pub past : List Event
+    pub group : GroupView
+    pub leads : IsLedTo opened past group
+    pub sound : IsSound group
+    pub portion : IsPortion group old new packets

@@ -205,7 +205,7 @@ impl<K: HouseName, L: HubName> Hub<K, L> {
     /// A feed of a node, of the group as it is now. It takes the lock once.
     #[tactic(auto, using(crate::proofs::LentFeeds::lends_feed))]
     pub fn begin_feed<R: Wait>(&self, rt: &R, node: NodeId) -> Feed
-        ensures { IsFeedOf node result }
+        ensures { IsFeedOf K.origin node result }
     {
         let tallied = self.enter(rt);
         let feed = tallied.begin_feed(node);
@@ -222,7 +222,8 @@ impl<K: HouseName, L: HubName> Hub<K, L> {
         alloc: Global,
         feed: &mut Feed,
     ) -> Result<Vec<Packet>, NoMemory>
-        ensures ok { IfOk result (λ packets. IsNextPortion feed.old feed.new packets.items) }
+        ensures ok { IfOk result
+            (λ packets. IsNextPortion K.origin feed.old feed.new packets.items) }
         ensures err { OnErr result (feed.new ≡ feed.old) }
     {
         let tallied = self.enter(rt);

@@ -40,7 +40,7 @@ impl Feeding {
         hub: &Hub<K, L>,
         node: NodeId,
     ) -> Feeding
-        ensures feed { IsFeedOf node result.feed }
+        ensures feed { IsFeedOf K.origin node result.feed }
         ensures waiting { result.waiting ≡ [] }
     {
         Feeding {
@@ -64,7 +64,7 @@ impl Feeding {
         alloc: Global,
         hub: &Hub<K, L>,
     ) -> Result<(), NoMemory>
-        ensures ok { OnOk result (IsNextPortion self.old.feed self.new.feed self.new.waiting) }
+        ensures ok { OnOk result (IsNextPortion K.origin self.old.feed self.new.feed self.new.waiting) }
         ensures err { OnErr result (self.new ≡ self.old) }
     {
         let packets = hub.next_portion(rt, alloc, &mut self.feed)?;
@@ -80,7 +80,7 @@ impl Feeding {
         alloc: Global,
         hub: &Hub<K, L>,
     ) -> Result<(), NoMemory>
-        ensures ok { OnOk result (Comes self.old.waiting self.old.feed self.new.feed
+        ensures ok { OnOk result (Comes K.origin self.old.waiting self.old.feed self.new.feed
             self.new.waiting) }
         ensures err { OnErr result (self.new ≡ self.old) }
     {
@@ -99,7 +99,7 @@ impl Feeding {
         alloc: Global,
         hub: &Hub<K, L>,
     ) -> Result<Option<Packet>, NoMemory>
-        ensures ok { IfOk result (λ next. Comes self.old.waiting self.old.feed self.new.feed
+        ensures ok { IfOk result (λ next. Comes K.origin self.old.waiting self.old.feed self.new.feed
             (option_to_list next ++ self.new.waiting)) }
         ensures err { OnErr result (self.new ≡ self.old) }
     {

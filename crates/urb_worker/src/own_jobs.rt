@@ -45,7 +45,7 @@ fn next_arrival<K: HouseName, L: HubName, N: Link, G: Gate, H: Reporter, R: Wait
     setting: &WorkerSetting<'_, K, L, N, G, H, R>,
     feeding: &mut Feeding,
 ) -> Result<Option<Job>, NoMemory>
-    ensures { IfOk result (λ own. IsNextArrival feeding.old feeding.new own) }
+    ensures { IfOk result (λ own. IsNextArrival K.origin feeding.old feeding.new own) }
 {
     let alloc = setting.alloc;
     match feeding.next_packet(setting.rt, alloc, setting.hub)? {
@@ -74,7 +74,7 @@ impl OwnJobs {
         setting: &WorkerSetting<'_, K, L, N, G, H, R>,
         node: NodeId,
     ) -> OwnJobs
-        ensures feed { Begins setting.now.mends node None result.feeding }
+        ensures feed { Begins K.origin setting.now.mends node None result.feeding }
         ensures pulse { result.pulse ≡ at_rest }
     {
         let mut own = OwnJobs {
@@ -91,7 +91,7 @@ impl OwnJobs {
         setting: &WorkerSetting<'_, K, L, N, G, H, R>,
         node: NodeId,
     )
-        ensures feed { Begins setting.now.mends node self.old.feeding self.new.feeding }
+        ensures feed { Begins K.origin setting.now.mends node self.old.feeding self.new.feeding }
         ensures pulse { self.new.pulse ≡ self.old.pulse }
     {
         if setting.mends {
@@ -130,7 +130,7 @@ impl OwnJobs {
         is_own: bool,
         finished: &Finished<K>,
     )
-        ensures feed { FeedsAfter setting.now.mends node (change_of finished.now)
+        ensures feed { FeedsAfter K.origin setting.now.mends node (change_of finished.now)
             self.old.feeding self.new.feeding }
         ensures pulse { self.new.pulse ≡ (if setting.now.mends
             then pulse_after is_own finished.now self.old.pulse else self.old.pulse) }
@@ -148,7 +148,7 @@ impl OwnJobs {
         node: NodeId,
         change: Option<Change>,
     )
-        ensures feed { FeedsAfter setting.now.mends node change
+        ensures feed { FeedsAfter K.origin setting.now.mends node change
             self.old.feeding self.new.feeding }
         ensures pulse { self.new.pulse ≡ self.old.pulse }
     {
@@ -170,7 +170,7 @@ impl OwnJobs {
         has_waited: bool,
     ) -> Result<Option<Job>, NoMemory>
         ensures own { IfOk result
-            (IsOwnJob node has_waited self.old.pulse self.old.feeding self.new.feeding) }
+            (IsOwnJob K.origin node has_waited self.old.pulse self.old.feeding self.new.feeding) }
         ensures cut { OnErr result (self.new.feeding ≡ None) }
         ensures pulse { self.new.pulse ≡ self.old.pulse }
     {

@@ -90,7 +90,7 @@ fn do_ticket<
     ensures keeps { (start : World) → Shows K.origin start
         → IsStoreSince S.Stable start tally.last node store.old
         → IsStoreSince S.Stable start result.last node store.new }
-    ensures own { Learns setting.now.mends is_own node ticket.job state.old.own state.new.own }
+    ensures own { Learns K.origin setting.now.mends is_own node ticket.job state.old.own state.new.own }
 {
     let Ticket { job, answer } = ticket;
     let (rt, alloc) = (setting.rt, setting.alloc);
@@ -135,7 +135,7 @@ fn do_own_job<
     ensures keeps { (start : World) → Shows K.origin start
         → IsStoreSince S.Stable start tally.last node store.old
         → IsStoreSince S.Stable start result.0.last node store.new }
-    ensures own { MayDoOwn setting.now.mends node has_waited state.old.own state.new.own
+    ensures own { MayDoOwn K.origin setting.now.mends node has_waited state.old.own state.new.own
         result.1 }
 {
     match state.own.next(setting, node, has_waited) {
@@ -174,7 +174,7 @@ fn do_batch<
     ensures keeps { (start : World) → Shows K.origin start
         → IsStoreSince S.Stable start tally.last node store.old
         → IsStoreSince S.Stable start result.last node store.new }
-    ensures own { LearnsAll setting.now.mends node (each tickets.items (λ ticket. ticket.job))
+    ensures own { LearnsAll K.origin setting.now.mends node (each tickets.items (λ ticket. ticket.job))
         state.old.own state.new.own }
 {
     let (mut tally, left_out) = keep_ahead(setting, node, store, &tickets, tally);
@@ -210,7 +210,7 @@ fn do_tickets<
     ensures keeps { (start : World) → Shows K.origin start
         → IsStoreSince S.Stable start tally.last node store.old
         → IsStoreSince S.Stable start result.last node store.new }
-    ensures own { LearnsBatch setting.now.mends node first.job state.old.own state.new.own }
+    ensures own { LearnsBatch K.origin setting.now.mends node first.job state.old.own state.new.own }
 {
     if let Some(feeds) = state.own.feeds() {
         outlets.end_batch(BatchEnd::Feeds(feeds));
@@ -262,8 +262,8 @@ fn do_round<
         → IsStoreSince S.Stable start tally.last node store.old
         → IsStoreSince S.Stable start result.0.last node store.new }
     ensures order { MatchOption came
-        (MayDoOwn setting.now.mends node true state.old.own state.new.own result.1)
-        (λ ticket. DoesBoth setting.now.mends node ticket.job state.old.own state.new.own
+        (MayDoOwn K.origin setting.now.mends node true state.old.own state.new.own result.1)
+        (λ ticket. DoesBoth K.origin setting.now.mends node ticket.job state.old.own state.new.own
         result.1) }
 {
     match came {

@@ -233,7 +233,8 @@ impl<K: HouseName, L: HubName> CountedHouse<K, L> {
     // A feed of a node, of the group as it is now.
     #[tactic(auto, using(crate::proofs::LentFeeds::begins_feed))]
     pub(crate) fn begin_feed(&self, node: NodeId) -> Feed
-        ensures { BeginsFeed self.now.house.group node result }
+        ensures leads { IsLedTo K.origin self.now.house.past self.now.house.group }
+        ensures begins { BeginsFeed self.now.house.group node result }
     {
         self.house.recall();
         Feed::begin(self.house.group(), node)
@@ -245,6 +246,7 @@ impl<K: HouseName, L: HubName> CountedHouse<K, L> {
         alloc: Global,
         feed: &mut Feed,
     ) -> Result<Vec<Packet>, NoMemory>
+        ensures leads { IsLedTo K.origin self.now.house.past self.now.house.group }
         ensures sound { IsSound self.now.house.group }
         ensures ok { IfOk result
             (λ packets. IsPortion self.now.house.group feed.old feed.new packets.items) }

@@ -12,6 +12,10 @@ use Rattle.urb_world.specs.internal.Examples.{limits, pending}
 abbrev pub full_group : GroupView
 full_group = record { size = limits 4 0; nodes = [] }
 
+-- a group without nodes
+abbrev pub no_nodes : GroupView
+no_nodes = record { size = limits 0 10; nodes = [] }
+
 -- a group of four nodes whose node 1 holds a draft of its second message, although it has stored
 -- no first one
 abbrev pub with_a_gap : GroupView

@@ -14,6 +14,6 @@ invariant-loop-ticket g l = record {
   keeps : (start : World) → Shows g.K.HouseName.origin start
       → IsStoreSince g.S.Stable start l.fn.tally.last l.node l.fn.store
       → IsStoreSince g.S.Stable start l.tally.last l.node l.store;
-  own : LearnsAll l.setting.mends l.node (each l.yielded (λ ticket. ticket.job)) l.fn.state.own
+  own : LearnsAll g.K.HouseName.origin l.setting.mends l.node (each l.yielded (λ ticket. ticket.job)) l.fn.state.own
       l.state.own;
 }

@@ -2,6 +2,7 @@
 use Rattle.std.proofs.Common.{List, None, Option, Some, [], ap, arith, false, refl, subst, true, ◌∙◌}
 use Rattle.std.proofs.Common.{◌∷◌, ◌≡◌}
 use Rattle.urb_group.specs.declared.reply.Reply.TheVariants as reply
+use Rattle.urb_show.specs.internal.ReaderExamples.{new_four}
 use Rattle.urb_turn.specs.Changes.{change_by, change_of}
 use Rattle.urb_turn.specs.Views.{FinishedView}
 use Rattle.urb_turn.specs.declared.change.Change.{Change}
@@ -110,14 +111,14 @@ returns-clause-of_a_crash c f = record {
 
 -- a status changes no feed
 status-stays : (done : FinishedView) (old new : Option FeedingView) → done.job ≡ job.Status 1
-    → FeedsAfter true 1 (change_of done) old new → new ≡ old
+    → FeedsAfter new_four true 1 (change_of done) old new → new ≡ old
 status-stays done old new is after =
-    subst (λ (next : Job). FeedsAfter true 1 (change_by next done.reply done.events) old new) is
+    subst (λ (next : Job). FeedsAfter new_four true 1 (change_by next done.reply done.events) old new) is
     after
 
 -- a status alone changes no feed
 alone-stays : (more : List Job) (old new : OwnJobsView) → more ≡ []
-    → LearnsAll true 1 (job.Status 1 ∷ more) old new → new.feeding ≡ old.feeding
+    → LearnsAll new_four true 1 (job.Status 1 ∷ more) old new → new.feeding ≡ old.feeding
 alone-stays [] old new none all =
     ap (λ (v : OwnJobsView). v.feeding) all.2
     ∙ status-stays all.1.done old.feeding all.0.feeding all.1.job all.1.feeding
@@ -130,7 +131,7 @@ returns-clause-of_a_crash_behind_it c f h =
     absurd (cc)
 
 -- a worker that never ticks early keeps its pulse
-pulse-stays : (jobs : List Job) (old new : OwnJobsView) → LearnsAll false 1 jobs old new
+pulse-stays : (jobs : List Job) (old new : OwnJobsView) → LearnsAll new_four false 1 jobs old new
     → new.pulse ≡ old.pulse
 pulse-stays [] old new same = ap (λ (v : OwnJobsView). v.pulse) same
 pulse-stays (next ∷ jobs) old new all = pulse-stays jobs all.0 new all.2 ∙ all.1.pulse
@@ -144,13 +145,13 @@ returns-clause-of_a_tick_if_it_never_ticks_early c h =
 
 -- a worker that feeds none begins no feed
 step-none : (changed : Option Change) (old new : Option FeedingView)
-    → FeedsAfter false 1 changed old new → old ≡ None → new ≡ None
+    → FeedsAfter new_four false 1 changed old new → old ≡ None → new ≡ None
 step-none None old new same none = same ∙ none
 step-none (Some (change.CameBack p)) old new same none = same ∙ none
 step-none (Some (change.Crashed p)) old new gone none = gone
 step-none (Some (change.Failed p r)) old new gone none = gone
 
-feeds-none : (jobs : List Job) (old new : OwnJobsView) → LearnsAll false 1 jobs old new
+feeds-none : (jobs : List Job) (old new : OwnJobsView) → LearnsAll new_four false 1 jobs old new
     → old.feeding ≡ None → new.feeding ≡ None
 feeds-none [] old new same none = ap (λ (v : OwnJobsView). v.feeding) same ∙ none
 feeds-none (next ∷ jobs) old new all none =
