@@ -1,1 +1,2 @@
+pub mod GroupValues
 pub mod JournalValues
