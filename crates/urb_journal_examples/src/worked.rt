@@ -7,4 +7,5 @@ pub mod journal_tables;
 pub mod open_journals;
 pub mod record_rows;
 pub mod row_readings;
+pub mod stopped_clusters;
 pub mod table_shapes;
