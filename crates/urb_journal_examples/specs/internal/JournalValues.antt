@@ -1,10 +1,9 @@
 -- Words of the worked examples: columns, tables, databases and states of a connection.
-use Rattle.std.specs.Prelude.{List, None, [], codes, false, if◌then◌else◌, pos, slice_set, true, ℕ}
-use Rattle.std.specs.Prelude.{◌==◌, ◌∷◌, ◌≡◌}
+use Rattle.std.specs.Prelude.{List, None, [], codes, false, pos, slice_set, true, ℕ}
+use Rattle.std.specs.Prelude.{◌∷◌, ◌≡◌}
 use Rattle.sqlite_disk.specs.declared.start.Start.{Ghosts}
-use Rattle.sqlite_value.specs.declared.keys.Collation.TheVariants.{Binary}
 use Rattle.sqlite_value.specs.declared.value.Value.TheVariants.{Blob as bytes, Int, Null}
-use Rattle.sqlite_schema.specs.declared.schema.Kind.TheVariants.{Blob, Integer}
+use Rattle.sqlite_schema.specs.declared.schema.Kind.TheVariants.{Blob}
 use Rattle.sqlite_schema.specs.declared.schema.Column.{Column}
 use Rattle.sqlite_schema.specs.declared.schema.Schema.{Schema}
 use Rattle.sqlite_schema.specs.declared.schema.Table.{Table}

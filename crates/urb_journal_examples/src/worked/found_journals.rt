@@ -54,7 +54,7 @@ pub fn what_an_opening_finds()
 {}
 
 /// After a stop the next opening finds what was left.
-pub fn what_the_next_opening_finds()
+pub fn what_is_found_again()
     ensures a_stored_record { IsFoundAfter {A = Unit {0}} {E = StoreFault} (Ok tt)
         (pending 1 1 ∷ []) (pending 1 2) (pending 1 1 ∷ pending 1 2 ∷ []) }
     ensures not_less_than_was_stored { IsFoundAfter {A = Unit {0}} {E = StoreFault} (Ok tt)
@@ -63,22 +63,22 @@ pub fn what_the_next_opening_finds()
         (Err Device) (pending 1 1 ∷ []) (pending 1 2) (pending 1 1 ∷ []) }
     ensures no_shut_journal { FindsWhatIsLeft (leaving_nothing (without_rows []))
         (shut (connected (without_rows []) no_trees)) (λ records. Unit {0}) → ⊥ }
-    ensures no_records_without_the_property { FindsWhatIsLeft (leaving_nothing (without_rows []))
+    ensures none_without_the_property { FindsWhatIsLeft (leaving_nothing (without_rows []))
         (connected (without_rows (first_table ∷ second_table ∷ [])) no_trees) (λ records. ⊥)
         → ⊥ }
-    ensures anything_if_no_journal_is_left { FindsWhatIsLeft
+    ensures anything_behind_no_journal { FindsWhatIsLeft
         (connected (without_rows []) no_database) (shut (connected (without_rows []) no_trees))
         (λ records. Unit {0}) }
 {}
 
 /// A stop after the close leaves what a stop before it could have left.
 pub fn what_closed_files_leave<D: Disk>()
-    ensures what_their_store_leaves { (both : BothFiles D) (store : Store D D.Disk)
+    ensures what_their_store_leaves { (left : Trees) (both : BothFiles D) (store : Store D D.Disk)
         → (both.log, both.db) ≡ files store
-        → ((db : Trees) → recovers store db → db ≡ no_trees)
-        → LeavesNoMore D.Disk (connected (without_rows []) no_trees) both }
-    ensures no_other_database { (both : BothFiles D)
+        → ((db : Trees) → recovers store db → db ≡ left)
+        → LeavesNoMore D.Disk (connected (without_rows []) left) both }
+    ensures no_other_database { (left : Trees) (both : BothFiles D)
         → ((store : Store D D.Disk) → (both.log, both.db) ≡ files store
-        → (db : Trees) × recovers store db × (db ≡ no_trees → ⊥))
-        → LeavesNoMore D.Disk (connected (without_rows []) no_trees) both → ⊥ }
+        → (db : Trees) × recovers store db × (db ≡ left → ⊥))
+        → LeavesNoMore D.Disk (connected (without_rows []) left) both → ⊥ }
 {}

@@ -34,7 +34,7 @@ pub fn what_stores_answer()
 {}
 
 /// A group is opened from what the stores answered.
-pub fn what_stores_open_together()
+pub fn what_opens_together()
     ensures a_group_from_no_stores { Shows (new_group 4) (opened (limits 4 10) (image_of []))
         → OpensTogether (in_memory (Unit {0})) (limits 4 10) [] (Ok (new_group 4)) [] }
     ensures not_another_group { OpensTogether (in_memory (Unit {0})) (limits 4 10) []
@@ -46,7 +46,7 @@ pub fn what_stores_open_together()
 {}
 
 /// The journals are those of nodes 1, 2, 3, .. A fault says why they can't be opened.
-pub fn which_journals_are_opened()
+pub fn which_journals_open()
     ensures no_journals { AreOfNodes (λ (node : ℕ). node) [] }
     ensures not_from_node_2_on { AreOfNodes (λ (node : ℕ). node) (2 ∷ []) → ⊥ }
     ensures a_failed_device { IsOfOpening 3 (folder.Journal 1 Device) }
@@ -65,7 +65,7 @@ pub fn which_fault_is_first()
 {}
 
 /// The files of each node hold what a stop may leave of it.
-pub fn what_files_hold_after_a_stop()
+pub fn what_files_hold()
     ensures no_empty_files_of_a_record { HoldsNode no_files
         (node_in Ready (pending 1 1 ∷ [])) → ⊥ }
     ensures files_of_four { (held : ℕ → Image) → ((i : ℕ) → i < 4 → held (suc i) ≡ no_files)

@@ -2,6 +2,7 @@
 //!
 //! Each of the rows that end in ⊥ breaks one rule alone.
 #![tactic(auto, unfolding(sqlite_schema::specs::Names::same_name))]
+
 ghost use Rattle.std.specs.Prelude.{[], ◌∷◌, ◌≡◌, ◌^◌, codes, take};
 ghost use Rattle.urb_sqlite.specs.JournalTables.{HasBoth, HasJournal, HasTable, IsAdoptable};
 ghost use Rattle.urb_sqlite.specs.JournalTables.{create_text, journal_name, limit_of, record_table};

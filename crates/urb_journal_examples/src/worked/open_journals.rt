@@ -2,6 +2,7 @@
 //!
 //! Each of the rows that end in ⊥ breaks one rule alone.
 #![tactic(auto, unfolding(sqlite_schema::specs::Names::same_name))]
+
 ghost use Rattle.std.specs.Prelude.{[], ◌∷◌, ◌≡◌, ◌^◌, codes, false, nat_le, ℕ};
 ghost use Rattle.sqlite_catalog.specs.Listing.{IsSound};
 ghost use Rattle.sqlite_schema.specs.declared.schema.Schema.{Schema};
@@ -29,20 +30,20 @@ pub fn which_journals_are_open()
 /// table has its name.
 pub fn which_trees_are_journals()
     ensures no_empty_ones { IsJournal no_trees → ⊥ }
-    ensures none_with_another_table_of_that_name { (db : Trees) (schema : Schema)
+    ensures none_with_another_such_table { (db : Trees) (schema : Schema)
         → IsSound schema db → schema.tables ≡ short_table ∷ [] → IsBase db → ⊥ }
     ensures none_that_are_no_database { IsBase no_database → ⊥ }
 {}
 
 /// Whatever a stop leaves is a journal of records that have the property.
 pub fn what_a_stop_leaves()
-    ensures no_records_without_the_property { (db : Trees)
+    ensures none_without_the_property { (db : Trees)
         → LeavesOnly (connected (without_rows []) db) (λ records. ⊥) → ⊥ }
     ensures no_record_without_a_row { (db : Trees)
         → ((tree : ℕ) → nat_le (2 ^ 31) tree ≡ false → db tree ≡ [])
         → LeavesOnly (connected (without_rows []) db) (λ records. records ≡ pending 1 1 ∷ [])
         → ⊥ }
-    ensures anything_of_a_shut_journal_at_rest { IsSafeAtRest
+    ensures anything_of_a_shut_journal { IsSafeAtRest
         (shut (connected (without_rows []) no_database)) }
 {}
 

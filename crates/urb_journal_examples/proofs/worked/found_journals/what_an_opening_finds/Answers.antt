@@ -1,5 +1,5 @@
 -- What is found is what the tables hold, since the files list something.
-use Rattle.std.proofs.Common.{[], ◌∷◌, ◌≡◌, refl}
+use Rattle.std.proofs.Common.{refl}
 use Rattle.urb_journal_examples.proofs.worked.found_journals.what_an_opening_finds.Goals as goal
 
 pub returns-clause-no_record_in_empty_files : goal.returns-clause-no_record_in_empty_files

@@ -2,7 +2,7 @@
 use Rattle.std.proofs.Common.{List, Result, Vec, [], inl, inr, ◌∷◌, ◌≡◌}
 use Rattle.urb_names.specs.declared.refusal.Refusal.TheVariants as refusal
 use Rattle.urb_stable.specs.Entries.{Entry}
-use Rattle.urb_stable.specs.MemoryStores.{Memory, empty_memory}
+use Rattle.urb_stable.specs.MemoryStores.{empty_memory}
 use Rattle.urb_stable.specs.StableStorage.{refusal_of}
 use Rattle.urb_stable.specs.declared.stable.StoreFault.{StoreFault}
 use Rattle.urb_stable.specs.declared.stable.StoreFault.TheVariants.{BadRow, Device, NoMemory, Place}

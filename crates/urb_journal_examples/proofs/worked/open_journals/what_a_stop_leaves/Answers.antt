@@ -2,7 +2,6 @@
 use Rattle.std.proofs.Common.{List, [], false, inl, inr, nat_le, refl, ℕ, ◌++◌, ◌^◌, ◌∷◌, ◌≡◌}
 use Rattle.std.proofs.Common.{◌⊎◌, ap, map, sym, ◌∙◌}
 use Rattle.sqlite.specs.Effect.{Database}
-use Rattle.sqlite_value.specs.Order.{Row}
 use Rattle.urb_stable.specs.Entries.{Entry}
 use Rattle.urb_sqlite.specs.JournalTables.{HasTable, Lacks, journal_name, second_name, tree_of}
 use Rattle.urb_sqlite.specs.OpenJournal.{database_of}
@@ -22,9 +21,8 @@ no-records place records [] [] is whole one two = absurd (cc)
 no-records place records [] (r ∷ rs) is whole one two = absurd (cc)
 no-records place records (r ∷ rs) second is whole one two = absurd (cc)
 
-pub returns-clause-no_records_without_the_property
-    : goal.returns-clause-no_records_without_the_property
-returns-clause-no_records_without_the_property c db h = (h db refl).3
+pub returns-clause-none_without_the_property : goal.returns-clause-none_without_the_property
+returns-clause-none_without_the_property c db h = (h db refl).3
 
 pub returns-clause-no_record_without_a_row : goal.returns-clause-no_record_without_a_row
 returns-clause-no_record_without_a_row c db none h =
@@ -37,6 +35,5 @@ returns-clause-no_record_without_a_row c db none h =
     ∙ it.2.in_second.spelled in
     no-records _ it.1 it.2.first it.2.second it.3 it.2.whole one two
 
-pub returns-clause-anything_of_a_shut_journal_at_rest
-    : goal.returns-clause-anything_of_a_shut_journal_at_rest
-returns-clause-anything_of_a_shut_journal_at_rest c h = absurd (let shut = h.is_open in cc)
+pub returns-clause-anything_of_a_shut_journal : goal.returns-clause-anything_of_a_shut_journal
+returns-clause-anything_of_a_shut_journal c h = absurd (let shut = h.is_open in cc)

@@ -1,5 +1,5 @@
 -- One table is added to none: it has no rows, and there was no other table.
-use Rattle.std.proofs.Common.{None, Some, [], refl, ◌∷◌, ◌≡◌}
+use Rattle.std.proofs.Common.{[], refl, ◌∷◌}
 use Rattle.sqlite_schema.specs.Names.{same_name}
 use Rattle.urb_journal_examples.specs.internal.JournalValues.{first_table}
 use Rattle.urb_journal_examples.proofs.worked.open_journals.what_is_added.Goals as goal

@@ -1,9 +1,9 @@
 -- What is committed has the table, and its trees are a database.
-use Rattle.std.proofs.Common.{List, None, Some, [], ap, false, inl, inr, length, refl, subst, sym, true}
-use Rattle.std.proofs.Common.{ℕ, ◌∷◌, ◌≡◌, ◌⊎◌}
+use Rattle.std.proofs.Common.{List, [], ap, false, inl, inr, length, refl, subst, sym}
+use Rattle.std.proofs.Common.{true}
+use Rattle.std.proofs.Common.{◌∷◌, ◌≡◌}
 use Rattle.std.specs.List.{AllZip}
 use Rattle.sqlite.specs.Effect.{Database}
-use Rattle.sqlite.specs.State.{KeepsCommit}
 use Rattle.sqlite_catalog.specs.Listing.{IsSound, IsTableRow}
 use Rattle.sqlite_schema.specs.declared.schema.Index.{Index}
 use Rattle.sqlite_schema.specs.declared.schema.Schema.{Schema}

@@ -1,17 +1,18 @@
 -- Trees that list nothing have no table, and a list of tables is that of one schema.
-use Rattle.std.proofs.Common.{List, None, Ok, Some, [], ap, ap₂, arith, false, inl, inr, refl, subst}
+use Rattle.std.proofs.Common.{List, Ok, [], ap, ap₂, arith, false, inl, inr, refl}
+use Rattle.std.proofs.Common.{subst}
 use Rattle.std.proofs.Common.{sym, true, ℕ, ◌+◌, ◌∙◌, ◌∷◌, ◌≡◌, ◌⊎◌}
 use Rattle.std.specs.List.{AllZip}
 use Rattle.std.specs.Prelude.{Option, length, option_map, pos, unwrap_or}
-use Rattle.sqlite_catalog.specs.Listing.{IsSound, IsTableRow, is_table_row}
+use Rattle.sqlite_catalog.specs.Listing.{IsSound, IsTableRow}
 use Rattle.sqlite_resolve.specs.Compile.{table_defined_by}
 use Rattle.sqlite_schema.specs.Names.{same_name}
 use Rattle.sqlite_schema.specs.declared.schema.Index.{Index}
 use Rattle.sqlite_schema.specs.declared.schema.Schema.{Schema}
 use Rattle.sqlite_schema.specs.declared.schema.Table.{Table}
 use Rattle.sqlite_schema.specs.declared.schema.View.{View}
-use Rattle.sqlite_trees.specs.Sound.{begins, fits_kind, is_sound_list}
-use Rattle.sqlite_trees.specs.Tree.{Trees, rowid}
+use Rattle.sqlite_trees.specs.Sound.{fits_kind, is_sound_list}
+use Rattle.sqlite_trees.specs.Tree.{rowid}
 use Rattle.sqlite_value.specs.Order.{Row, column, value_cmp}
 use Rattle.sqlite_value.specs.declared.value.Value.TheVariants.{Int, Text}
 use Rattle.urb_sqlite.specs.JournalTables.{HasTable, Lacks, journal_name}
@@ -90,9 +91,8 @@ pub returns-clause-no_empty_ones : goal.returns-clause-no_empty_ones
 returns-clause-no_empty_ones c h =
     no-table h.schema.tables h.schema.indexes h.schema.views h.sound.lists.listed.tables h.has.0
 
-pub returns-clause-none_with_another_table_of_that_name
-    : goal.returns-clause-none_with_another_table_of_that_name
-returns-clause-none_with_another_table_of_that_name c db schema sound short h =
+pub returns-clause-none_with_another_such_table : goal.returns-clause-none_with_another_such_table
+returns-clause-none_with_another_such_table c db schema sound short h =
     not-short h.schema.tables h.schema.indexes h.schema.views
     (sym short ∙ same_tables _ _ _ sound.lists.listed.tables h.sound.lists.listed.tables) h.has.0
 

@@ -1,5 +1,6 @@
 -- No record has a row without columns, and no list ends behind an entry and is empty.
-use Rattle.std.proofs.Common.{List, [], ap, arith, length, map, refl, sym, ℕ, ◌+◌, ◌++◌, ◌∷◌, ◌≡◌, ◌≤◌}
+use Rattle.std.proofs.Common.{List, [], ap, arith, length, map, refl, sym, ℕ, ◌+◌, ◌++◌, ◌∷◌, ◌≡◌}
+use Rattle.std.proofs.Common.{◌≤◌}
 use Rattle.sqlite_value.specs.Order.{Row, bytes, column}
 use Rattle.urb_stable.specs.Entries.{Entry}
 use Rattle.urb_stable.specs.declared.record.Record.TheVariants.{Cert, Pend, PendCert}

@@ -2,8 +2,6 @@
 use Rattle.std.proofs.Common.{List, [], arith, length, refl, ℕ, ◌∷◌, ◌≡◌}
 use Rattle.std.specs.List.{All}
 use Rattle.urb_names.specs.Names.{name}
-use Rattle.urb_names.specs.declared.refusal.Refusal.TheVariants.{Busy}
-use Rattle.urb_node.specs.Replies.{Refused}
 use Rattle.urb_group.specs.GroupViews.{Shows}
 use Rattle.urb_stable.specs.DeliveredLogs.{log}
 use Rattle.urb_stable.specs.Entries.{Entry}

@@ -1,14 +1,14 @@
 -- No store comes back that wasn't asked.
-use Rattle.std.proofs.Common.{Err, List, Result, Vec, [], inl, inr, ◌∷◌, ◌≡◌, ◌⊎◌}
+use Rattle.std.proofs.Common.{Err, List, Result, Vec, [], inl, inr, ◌∷◌}
 use Rattle.urb_names.specs.declared.refusal.Refusal.TheVariants as refusal
 use Rattle.urb_stable.specs.Entries.{Entry}
-use Rattle.urb_stable.specs.MemoryStores.{Memory, empty_memory}
+use Rattle.urb_stable.specs.MemoryStores.{empty_memory}
 use Rattle.urb_stable.specs.declared.stable.StoreFault.{StoreFault}
 use Rattle.urb_group.specs.StoreOpenings.{AllGive}
 use Rattle.urb_world.specs.MemoryStores.{in_memory}
 use Rattle.urb_folder.specs.AskedStores.{AllAnswer, OpensTogether}
 use Rattle.urb_world.specs.internal.Examples.{limits}
-use Rattle.urb_journal_examples.proofs.worked.journal_folders.what_stores_open_together.Goals as goal
+use Rattle.urb_journal_examples.proofs.worked.journal_folders.what_opens_together.Goals as goal
 
 none-answers : (answers : List (Result (Vec Entry (Unit {0})) StoreFault))
     → AllAnswer (in_memory (Unit {0})) [] answers (empty_memory ∷ []) → ⊥

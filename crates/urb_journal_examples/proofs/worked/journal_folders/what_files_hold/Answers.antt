@@ -1,23 +1,24 @@
 -- Empty files hold no database, so they hold no record.
-use Rattle.std.proofs.Common.{List, Some, [], arith, false, inl, inr, length, refl, rules, sym, true, ℕ}
-use Rattle.std.proofs.Common.{◌<◌, ◌∷◌, ◌≡◌, ◌⊎◌}
+use Rattle.std.proofs.Common.{List, [], arith, false, inl, inr, length, refl, rules, sym}
+use Rattle.std.proofs.Common.{true, ℕ}
+use Rattle.std.proofs.Common.{◌<◌, ◌∷◌, ◌≡◌}
 use Rattle.std.specs.Prelude.{suc}
 use Rattle.sqlite.specs.Files.{HoldsDatabase}
 use Rattle.sqlite_trees.specs.Tree.{Trees}
 use Rattle.sqlite_wal.specs.Recovery.{Image}
-use Rattle.urb_node.specs.Part.{Node, Ready}
+use Rattle.urb_node.specs.Part.{Ready}
 use Rattle.urb_stable.specs.Entries.{Entry}
 use Rattle.urb_names.specs.LabelsAndContents.{Label}
 use Rattle.urb_names.specs.Names.{has_name, name}
 use Rattle.urb_names.specs.Acknowledgements.{acked}
 use Rattle.urb_stable.specs.Records.{cert}
 use Rattle.urb_world.specs.RunInvariant.{AcksKept}
-use Rattle.urb_world.specs.World.{image_of, opened, stored}
+use Rattle.urb_world.specs.World.{stored}
 use Rattle.urb_sqlite.specs.FoundJournals.{HoldsRecords}
 use Rattle.urb_folder.specs.StoppedFiles.{HoldsNode}
-use Rattle.urb_world.specs.internal.Examples.{limits, node_in, pending}
+use Rattle.urb_world.specs.internal.Examples.{node_in, pending}
 use Rattle.urb_journal_examples.specs.internal.JournalValues.{no_files}
-use Rattle.urb_journal_examples.proofs.worked.journal_folders.what_files_hold_after_a_stop.Goals as goal
+use Rattle.urb_journal_examples.proofs.worked.journal_folders.what_files_hold.Goals as goal
 
 -- empty files hold no database
 no-database : (db : Trees) → HoldsDatabase no_files db → ⊥
