@@ -54,7 +54,7 @@ other_table tree = record_table (codes "other") tree
 abbrev pub counted_table : List ℕ → Table
 counted_table name = record (record_table name 4) { is_counted = true }
 
--- a table of that name whose only column is the place
+-- a table by the name of the first one, whose only column is the place
 abbrev pub short_table : Table
 short_table = record first_table { columns = place_column ∷ [] }
 
@@ -112,7 +112,7 @@ one_byte n = record { log = []; db = n ∷ [] }
 abbrev pub started_with : ℕ → Ghosts (Unit {0})
 started_with n = record { log = []; db = n ∷ []; is_mixing = true }
 
--- what the files of seven nodes held: each database has one byte, the node's number
+-- what each node's files held: the database has one byte, the node's number
 abbrev pub held : ℕ → Image
 held = held_by (started_with 1) (started_with 2) (started_with 3) (started_with 4)
     (started_with 5) (started_with 6) (started_with 7)

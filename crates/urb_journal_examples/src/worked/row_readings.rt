@@ -49,7 +49,8 @@ pub fn what_record_a_row_has()
 
 /// All records are read, one after the other.
 pub fn which_records_are_read()
-    ensures both { ok_or_none (Ok (pending 1 1 ∷ pending 1 2 ∷ [])) ≡ pending 1 1 ∷ pending 1 2 ∷ [] }
+    ensures both { ok_or_none (Ok (pending 1 1 ∷ pending 1 2 ∷ []))
+        ≡ pending 1 1 ∷ pending 1 2 ∷ [] }
     ensures both_of_a_journal { (d : Database)
         → table_rows d journal_name ≡ rows_of 1 (pending 1 1 ∷ pending 1 2 ∷ [])
         → table_rows d second_name ≡ [] → records_of d ≡ pending 1 1 ∷ pending 1 2 ∷ [] }

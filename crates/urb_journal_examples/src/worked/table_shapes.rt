@@ -44,7 +44,8 @@ pub fn which_columns_are_plain()
 pub fn what_columns_are()
     ensures the_rowid { is_rowid (codes "pos") place_column ≡ true }
     ensures no_rowid_by_another_name { is_rowid (codes "kind") place_column ≡ false }
-    ensures no_rowid_of_bytes { is_rowid (codes "pos") (record place_column { kind = Blob }) ≡ false }
+    ensures no_rowid_of_bytes { is_rowid (codes "pos") (record place_column { kind = Blob })
+        ≡ false }
     ensures no_rowid_that_is_not_null { is_rowid (codes "kind") kind_column ≡ false }
     ensures a_count { is_count (codes "kind") kind_column ≡ true }
     ensures no_count_by_another_name { is_count (codes "seq") kind_column ≡ false }
@@ -111,7 +112,8 @@ pub fn which_table_is_of_records()
     ensures not_by_another_name { is_journal second_name first_table ≡ false }
     ensures not_without_columns { is_journal journal_name (record first_table { columns = [] })
         ≡ false }
-    ensures not_without_a_key { is_journal journal_name (record first_table { key = None }) ≡ false }
+    ensures not_without_a_key { is_journal journal_name (record first_table { key = None })
+        ≡ false }
     ensures not_with_a_rule { is_journal journal_name
         (record first_table { uniques = (1 ∷ []) ∷ [] }) ≡ false }
     ensures not_with_counted_keys { is_journal journal_name
