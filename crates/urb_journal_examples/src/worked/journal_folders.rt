@@ -1,6 +1,4 @@
 //! Worked examples of a folder of journals: its files after a stop, and stores asked together.
-//!
-//! Each of the rows that end in ⊥ breaks one rule alone.
 ghost use Rattle.std.specs.Prelude.{[], ◌<◌, ◌∷◌, ◌≡◌, Err, Ok, suc, ℕ};
 ghost use Rattle.sqlite_wal.specs.Recovery.{Image};
 ghost use Rattle.urb_names.specs.Names.{name};

@@ -1,6 +1,4 @@
 //! Worked examples of open journals: what their trees are, what a stop leaves, and what is added.
-//!
-//! Each of the rows that end in ⊥ breaks one rule alone.
 #![tactic(auto, unfolding(sqlite_schema::specs::Names::same_name))]
 
 ghost use Rattle.std.specs.Prelude.{[], ◌∷◌, ◌≡◌, ◌^◌, codes, false, nat_le, ℕ};

@@ -1,6 +1,4 @@
 //! Worked examples of the rows of a journal: the row of a record, and the records of rows.
-//!
-//! Each of the rows that end in ⊥ breaks one rule alone.
 ghost use Rattle.std.specs.Prelude.{[], ◌∷◌, ◌≡◌};
 ghost use Rattle.sqlite.specs.Effect.{Database};
 ghost use Rattle.urb_names.specs.Names.{name};
