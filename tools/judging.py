@@ -45,7 +45,8 @@ SIZE = re.compile(r"\blimits (\d+) ")
 LONG = re.compile(r"\bfilled \d+ \d+ \d{4}")  # a payload of over 1,000 bytes
 GOAL = "returns-clause-"
 SECOND = "    ensures nothing_else { Unit {0} }"
-DECLARATION = re.compile(r"(?:pub |abbrev )*([^\W\d][\w-]*) :(?: |$)")
+# A declaration's name; the sign behind a long one may stand in the next line.
+DECLARATION = re.compile(r"(?:pub |abbrev )*([^\W\d][\w-]*)(?: :(?: |$)|$)")
 IN_PROOF = re.compile(
     r"^(?:\./)?proofs/worked/wrong(\d+)_(\w+)/(\w+)/Answers\.antt:\d+:\d+: error: `([^`]+)`"
 )

@@ -139,6 +139,12 @@ class Cuts(JudgingTest):
         self.assertNotIn("of_any", text)
         self.assertEqual(judging.with_answers(PROOF, {"of_the_better"}), "")
 
+    def test_of_a_proof_with_a_long_name(self) -> None:
+        name = "returns-clause-of_all"
+        proof = f"{PROOF}\npub {name}\n    : goal.{name}\n{name} c = helper\n"
+        self.assertIn(f"{name} c", judging.with_answers(proof, {"of_all"}))
+        self.assertNotIn(name, judging.with_answers(proof, {"of_none"}))
+
 
 class Copies(JudgingTest):
     def test_a_moved_name_is_imported_from_its_new_place(self) -> None:

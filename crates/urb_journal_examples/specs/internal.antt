@@ -1,0 +1,2 @@
+pub mod GroupValues
+pub mod JournalValues
