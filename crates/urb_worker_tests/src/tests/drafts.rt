@@ -29,23 +29,51 @@ impl Gate for Counter {
     }
 }
 
-// The jobs of a node, one after the other. The second submit repeats the first, and a crash comes
-// before the last one.
-fn jobs(alloc: Global, node: NodeId) -> Option<Vec<Job>> {
+// What a job of these tests does. A submit has this number.
+#[derive(Clone, Copy)]
+enum Deed {
+    Submit(u32),
+    Tick,
+    Status,
+    Arrive,
+    Crash,
+    Restart,
+}
+
+// The second submit repeats the first, and a crash comes before the last one.
+const DEEDS: [Deed; 9] = [
+    Deed::Submit(1),
+    Deed::Submit(1),
+    Deed::Tick,
+    Deed::Status,
+    Deed::Arrive,
+    Deed::Crash,
+    Deed::Submit(2),
+    Deed::Restart,
+    Deed::Submit(2),
+];
+
+// The job of a node that does this. The packet that arrives has no bytes.
+fn job_of(alloc: Global, node: NodeId, deed: Deed) -> Option<Job> {
+    match deed {
+        Deed::Submit(number) => submit(alloc, node, number),
+        Deed::Tick => Some(Job::Tick(node)),
+        Deed::Status => Some(Job::Status(node)),
+        Deed::Arrive => Some(Job::Arrive {
+            node,
+            bytes: Vec::new(alloc),
+        }),
+        Deed::Crash => Some(Job::Crash(node)),
+        Deed::Restart => Some(Job::Restart(node)),
+    }
+}
+
+// The jobs of a node, one after the other.
+fn make_jobs(alloc: Global, node: NodeId) -> Option<Vec<Job>> {
     let mut jobs = Vec::new(alloc);
-    jobs.push(submit(alloc, node, 1)?).ok()?;
-    jobs.push(submit(alloc, node, 1)?).ok()?;
-    jobs.push(Job::Tick(node)).ok()?;
-    jobs.push(Job::Status(node)).ok()?;
-    jobs.push(Job::Arrive {
-        node,
-        bytes: Vec::new(alloc),
-    })
-    .ok()?;
-    jobs.push(Job::Crash(node)).ok()?;
-    jobs.push(submit(alloc, node, 2)?).ok()?;
-    jobs.push(Job::Restart(node)).ok()?;
-    jobs.push(submit(alloc, node, 2)?).ok()?;
+    for deed in &DEEDS {
+        jobs.push(job_of(alloc, node, *deed)?).ok()?;
+    }
     Some(jobs)
 }
 
@@ -102,7 +130,7 @@ fn run_drafts<K: HouseName, L: HubName, R: Wait>(
 
 #[test]
 fn a_gate_is_asked_for_drafts_alone(rt: HostRuntime) -> Result<(), Fail> {
-    let jobs = jobs(rt.alloc(), NodeId::new(1).unwrap()).ok_or("memory")?;
+    let jobs = make_jobs(rt.alloc(), NodeId::new(1).unwrap()).ok_or("memory")?;
     let opened = open_group(rt.alloc(), 1).ok_or("memory")?;
     let asked = run_drafts::<Brand, Brand, _>(&rt, rt.alloc(), opened, Blank::new(1), jobs);
     // Of nine jobs the first and the last draft a record.

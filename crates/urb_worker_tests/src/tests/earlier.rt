@@ -49,14 +49,22 @@ fn ask_twice<K: HouseName, R: Wait>(
     Some((first, second))
 }
 
+// The way back of the next ticket, if it has one.
+fn next_answer<K: HouseName, R: Wait>(
+    rt: &R,
+    jobs: &Receiver<Ticket<K>>,
+) -> Option<Sender<Finished<K>>> {
+    match jobs.recv(rt) {
+        Ok(Ticket { job: _, answer }) => answer,
+        Err(_) => None,
+    }
+}
+
 // Answers the next ticket by this turn.
 fn answer_next<K: HouseName, R: Wait>(rt: &R, jobs: &Receiver<Ticket<K>>, finished: Finished<K>) {
-    let Ok(ticket) = jobs.recv(rt) else {
-        return;
-    };
-    let Ticket { job: _, answer } = ticket;
-    if let Some(answer) = answer {
-        let _ = answer.send(rt, finished);
+    match next_answer(rt, jobs) {
+        Some(answer) => drop(answer.send(rt, finished)),
+        None => drop(finished),
     }
 }
 

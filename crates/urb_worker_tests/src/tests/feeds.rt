@@ -2,7 +2,7 @@
 
 ghost use Rattle.std.specs.Prelude.{◌≡◌, ◌<◌, ◌≤◌, IfSome, vec_len};
 
-use super::groups::{answers, link_to, make_stations};
+use super::groups::{answers, is_answered, link_to, make_stations};
 use std::alloc::Global;
 use std::marker::Brand;
 use std::net::{Net, TcpListener, TcpStream};
@@ -149,12 +149,12 @@ fn is_whole_after_restart<R: Clock + Net<Listener = TcpListener, Stream = TcpStr
         return None;
     };
     let is_whole = is_whole_soon(rt, alloc, third, 100)?;
-    let is_down = answers(rt, alloc, third, CRASH)?.as_slice() == DONE;
-    let is_accepted = answers(rt, alloc, first, SUBMIT)?.as_slice() == ACCEPTED;
+    let is_down = is_answered(rt, alloc, third, CRASH, DONE)?;
+    let is_accepted = is_answered(rt, alloc, first, SUBMIT, ACCEPTED)?;
     let is_shown = is_whole_soon(rt, alloc, second, 101)?;
     // The packet to node 3 has been dropped by now, since its node is down.
     thread::sleep(rt, Duration::from_millis(50));
-    let is_up = answers(rt, alloc, third, RESTART)?.as_slice() == DONE;
+    let is_up = is_answered(rt, alloc, third, RESTART, DONE)?;
     let is_whole_again = is_whole_soon(rt, alloc, third, 101)?;
     Some(is_whole && is_down && is_accepted && is_shown && is_up && is_whole_again)
 }

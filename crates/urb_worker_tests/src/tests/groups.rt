@@ -63,6 +63,17 @@ pub(super) fn answers<R: Net<Listener = TcpListener, Stream = TcpStream>>(
     Some(answered)
 }
 
+// Whether a node answers these bytes so, until it ends the session.
+pub(super) fn is_answered<R: Net<Listener = TcpListener, Stream = TcpStream>>(
+    rt: &R,
+    alloc: Global,
+    station: &Station,
+    sent: &[u8],
+    answer: &[u8],
+) -> Option<bool> {
+    Some(answers(rt, alloc, station, sent)?.as_slice() == answer)
+}
+
 // Whether a node shows the message of node 1, after at most 10,000 checks, a millisecond apart.
 fn shows_it<R: Clock + Net<Listener = TcpListener, Stream = TcpStream>>(
     rt: &R,
@@ -70,7 +81,7 @@ fn shows_it<R: Clock + Net<Listener = TcpListener, Stream = TcpStream>>(
     station: &Station,
 ) -> Option<bool> {
     for _ in 0..10_000u32 {
-        if answers(rt, alloc, station, READ)?.as_slice() == SHOWN {
+        if is_answered(rt, alloc, station, READ, SHOWN)? {
             return Some(true);
         }
         thread::sleep(rt, Duration::from_millis(1));
@@ -88,10 +99,10 @@ fn comes_by_a_tick<R: Clock + Net<Listener = TcpListener, Stream = TcpStream>>(
     let [first, second, third] = stations else {
         return None;
     };
-    let is_down = answers(rt, alloc, third, CRASH)?.as_slice() == DONE;
-    let is_accepted = answers(rt, alloc, first, SUBMIT)?.as_slice() == ACCEPTED;
+    let is_down = is_answered(rt, alloc, third, CRASH, DONE)?;
+    let is_accepted = is_answered(rt, alloc, first, SUBMIT, ACCEPTED)?;
     let is_shown = shows_it(rt, alloc, second)?;
-    let is_up = answers(rt, alloc, third, RESTART)?.as_slice() == DONE;
+    let is_up = is_answered(rt, alloc, third, RESTART, DONE)?;
     Some(is_down && is_accepted && is_shown && is_up && shows_it(rt, alloc, third)?)
 }
 
@@ -120,7 +131,7 @@ fn outlives_who_breaks_off<R: Net<Listener = TcpListener, Stream = TcpStream>>(
         break_off(rt, station, b"\x00\x09\x01", &mut [])?;
         break_off(rt, station, b"\x00\x01\x03", &mut [0])?;
     }
-    Some(answers(rt, alloc, station, SUBMIT)?.as_slice() == ACCEPTED)
+    is_answered(rt, alloc, station, SUBMIT, ACCEPTED)
 }
 
 // Has node 1 send a message, and returns whether each node shows it.
@@ -129,7 +140,7 @@ fn comes_to_all<R: Clock + Net<Listener = TcpListener, Stream = TcpStream>>(
     alloc: Global,
     stations: &[Station],
 ) -> Option<bool> {
-    let mut is_shown = answers(rt, alloc, stations.first()?, SUBMIT)?.as_slice() == ACCEPTED;
+    let mut is_shown = is_answered(rt, alloc, stations.first()?, SUBMIT, ACCEPTED)?;
     for station in stations {
         is_shown = is_shown && shows_it(rt, alloc, station)?;
     }
@@ -142,7 +153,7 @@ fn accepts_one<R: Net<Listener = TcpListener, Stream = TcpStream>>(
     alloc: Global,
     stations: &[Station],
 ) -> Option<bool> {
-    Some(answers(rt, alloc, stations.first()?, SUBMIT)?.as_slice() == ACCEPTED)
+    is_answered(rt, alloc, stations.first()?, SUBMIT, ACCEPTED)
 }
 
 // Whether the first node refuses a crash and a restart as requests that it doesn't know, and accepts
@@ -153,8 +164,8 @@ fn refuses_crashes<R: Net<Listener = TcpListener, Stream = TcpStream>>(
     stations: &[Station],
 ) -> Option<bool> {
     let station = stations.first()?;
-    let is_refused = answers(rt, alloc, station, CRASH)?.as_slice() == NOT_TAKEN
-        && answers(rt, alloc, station, RESTART)?.as_slice() == NOT_TAKEN;
+    let is_refused = is_answered(rt, alloc, station, CRASH, NOT_TAKEN)?
+        && is_answered(rt, alloc, station, RESTART, NOT_TAKEN)?;
     Some(is_refused && accepts_one(rt, alloc, stations)?)
 }
 
@@ -165,12 +176,25 @@ fn is_served_soon<R: Clock + Net<Listener = TcpListener, Stream = TcpStream>>(
     station: &Station,
 ) -> Option<bool> {
     for _ in 0..10_000u32 {
-        if answers(rt, alloc, station, SUBMIT)?.as_slice() == ACCEPTED {
+        if is_answered(rt, alloc, station, SUBMIT, ACCEPTED)? {
             return Some(true);
         }
         thread::sleep(rt, Duration::from_millis(1));
     }
     Some(false)
+}
+
+// A connection at which the node has begun to report its status.
+fn open_served<R: Net<Listener = TcpListener, Stream = TcpStream>>(
+    rt: &R,
+    station: &Station,
+) -> Option<TcpStream> {
+    let mut stream = TcpStream::connect(rt, (Ipv4Addr::LOCALHOST, station.tcp_port)).ok()?;
+    let limit = stream.set_read_timeout(Some(Duration::from_millis(10_000)));
+    let is_served = limit.is_ok()
+        && stream.write_all(b"\x00\x01\x03").is_ok()
+        && stream.read_exact(&mut [0]).is_ok();
+    if is_served { Some(stream) } else { None }
 }
 
 // Whether a node serves as many clients at once as it may, and reports its status to each of them.
@@ -182,15 +206,9 @@ fn serves_all_at_once<R: Clock + Net<Listener = TcpListener, Stream = TcpStream>
 ) -> Option<bool> {
     let mut streams = Vec::with_capacity(alloc, CLIENTS).ok()?;
     for _i in 0..CLIENTS {
-        let mut stream = TcpStream::connect(rt, (Ipv4Addr::LOCALHOST, station.tcp_port)).ok()?;
-        stream
-            .set_read_timeout(Some(Duration::from_millis(10_000)))
-            .ok()?;
-        stream.write_all(b"\x00\x01\x03").ok()?;
-        stream.read_exact(&mut [0]).ok()?;
-        streams.push(stream).ok()?;
+        streams.push(open_served(rt, station)?).ok()?;
     }
-    let is_refused = answers(rt, alloc, station, b"")?.as_slice() == BUSY;
+    let is_refused = is_answered(rt, alloc, station, b"", BUSY)?;
     drop(streams.pop());
     Some(is_refused && is_served_soon(rt, alloc, station)? && streams.len() + 1 == CLIENTS)
 }

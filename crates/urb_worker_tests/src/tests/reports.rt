@@ -2,7 +2,7 @@
 
 ghost use Rattle.std.specs.Prelude.{◌≡◌, ◌<◌, ◌≤◌, IfSome, vec_len};
 
-use super::groups::{answers, link_to, make_stations};
+use super::groups::{is_answered, link_to, make_stations};
 use super::open_group;
 use std::alloc::Global;
 use std::marker::Brand;
@@ -102,7 +102,7 @@ fn goes_down_and_back<R: Net<Listener = TcpListener, Stream = TcpStream>>(
         (CRASH, DONE),
         (RESTART, DONE),
     ] {
-        are_right = are_right && answers(rt, alloc, station, sent)?.as_slice() == answered;
+        are_right = are_right && is_answered(rt, alloc, station, sent, answered)?;
     }
     Some(are_right)
 }
@@ -114,7 +114,7 @@ fn comes_down<R: Clock + Net<Listener = TcpListener, Stream = TcpStream>>(
     station: &Station,
 ) -> Option<bool> {
     for _ in 0..10_000u32 {
-        if answers(rt, alloc, station, STATUS)?.as_slice() == DOWN {
+        if is_answered(rt, alloc, station, STATUS, DOWN)? {
             return Some(true);
         }
         thread::sleep(rt, Duration::from_millis(1));
@@ -129,7 +129,7 @@ fn takes_the_second_down<R: Clock + Net<Listener = TcpListener, Stream = TcpStre
     first: &Station,
     second: &Station,
 ) -> Option<bool> {
-    let is_accepted = answers(rt, alloc, first, SUBMIT)?.as_slice() == ACCEPTED;
+    let is_accepted = is_answered(rt, alloc, first, SUBMIT, ACCEPTED)?;
     Some(is_accepted && comes_down(rt, alloc, second)?)
 }
 

@@ -93,6 +93,24 @@ fn is_refused<K: HouseName, R: Wait + Clock>(
     }
 }
 
+// A submit, to be refused.
+fn submit_of(alloc: Global) -> Option<Request> {
+    Some(Request::Submit {
+        client: ClientId::new(7)?,
+        number: 1,
+        payload: Payload::copied(alloc, b"hi").ok()?,
+    })
+}
+
+// Whether a request without fields gets this refusal.
+fn is_control_refused<K: HouseName, R: Wait + Clock>(
+    desk: &mut NodeDesk<'_, K, R>,
+    control: Control,
+    refusal: u8,
+) -> bool {
+    is_refused(desk, &Request::Ask(control), refusal)
+}
+
 // Whether a submit, a status, a crash and a restart each get this refusal.
 fn are_refused<K: HouseName, R: Wait + Clock>(
     rt: &R,
@@ -103,21 +121,17 @@ fn are_refused<K: HouseName, R: Wait + Clock>(
 ) -> Option<bool>
     requires { 1 ≤ length K.base }
 {
-    let node = NodeId::new(1)?;
-    let (hall, position) = open_hall(alloc, reader)?;
-    let service = service_of(line, &hall);
-    let mut desk = NodeDesk::new(rt, alloc, node, service, position);
-    let submit = Request::Submit {
-        client: ClientId::new(7)?,
-        number: 1,
-        payload: Payload::copied(alloc, b"hi").ok()?,
+    let (node, (hall, position)) = (NodeId::new(1).unwrap(), open_hall(alloc, reader)?);
+    let mut desk = NodeDesk::new(rt, alloc, node, service_of(line, &hall), position);
+    let is_submit_refused = match submit_of(alloc) {
+        Some(submit) => is_refused(&mut desk, &submit, refusal),
+        None => false,
     };
-    Some(
-        is_refused(&mut desk, &submit, refusal)
-            && is_refused(&mut desk, &Request::Ask(Control::Status), refusal)
-            && is_refused(&mut desk, &Request::Ask(Control::Crash), refusal)
-            && is_refused(&mut desk, &Request::Ask(Control::Restart), refusal),
-    )
+    let are_others_refused = is_control_refused(&mut desk, Control::Status, refusal)
+        && is_control_refused(&mut desk, Control::Crash, refusal)
+        && is_control_refused(&mut desk, Control::Restart, refusal);
+    drop(desk);
+    Some(is_submit_refused && are_others_refused)
 }
 
 // A desk whose worker has this fault. Returns whether it refuses all requests in this way.
