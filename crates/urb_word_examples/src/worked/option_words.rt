@@ -1,10 +1,11 @@
 //! Words of command lines, and the ranges of their options.
-ghost use Rattle.std.specs.Prelude.{[], ◌∷◌, ◌≡◌, None, Some, codes, false, suc, true};
+ghost use Rattle.std.specs.Prelude.{[], ◌∷◌, ◌≡◌, List, None, Some, codes, false, suc, true};
+ghost use Rattle.clap.specs.Words.{Text, subcommand_of};
 ghost use Rattle.clap.specs.declared.error.kind.ErrorKind.TheVariants.{DisplayHelp, DisplayVersion};
 ghost use Rattle.clap.specs.declared.error.kind.ErrorKind.TheVariants.{OutOfMemory};
 ghost use Rattle.clap.specs.declared.error.kind.ErrorKind.TheVariants.{UnknownArgument};
 ghost use Rattle.urb_names.specs.declared.limits.TheConstants.{MAX_CAP, MAX_NODES};
-ghost use Rattle.urb_options.specs.CommandLine.{HasStatus, parser_status};
+ghost use Rattle.urb_options.specs.CommandLine.{HasStatus, parser_status, urbd_app};
 ghost use Rattle.urb_options.specs.Doors.{mode_in, octal_value};
 ghost use Rattle.urb_options.specs.OptionRanges.{AreInRange, AreServiceRanges};
 ghost use Rattle.urb_options.specs.ProgramFaults.{fault_of_run};
@@ -58,8 +59,9 @@ pub fn numbers_of_options()
 
 /// The options of a command line are unfit only if the parser finds no fault in its words.
 pub fn lines_that_are_not_unfit()
-    ensures no_words { IsUnfit [] → ⊥ }
-    ensures a_task { IsUnfit (codes "replay" ∷ []) → ⊥ }
+    ensures no_task { IsUnfit (codes "urbd" ∷ []) → ⊥ }
+    ensures a_task { (words : List Text) → task_named (subcommand_of urbd_app words) ≡ Some Replay
+        → IsUnfit words → ⊥ }
 {}
 
 /// The statuses of command lines that are refused, and the faults of runs.
