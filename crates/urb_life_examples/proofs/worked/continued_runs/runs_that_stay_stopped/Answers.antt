@@ -20,7 +20,8 @@ ok-err n why e = cc
 pub returns-clause-without_memory : goal.returns-clause-without_memory
 returns-clause-without_memory c = record {
   why = refusal.NoMemory;
-  stays = (record {
+  stays = (
+    record {
       sound = record { world = four; shows = shows-new (limits 4 10); kept = new-kept (limits 4 10) };
       counted = refl;
       nodes = omega (arith);
@@ -28,7 +29,9 @@ returns-clause-without_memory c = record {
       shows = shows-new (limits 4 10);
       stands = record { size = refl; nodes = λ p. inl refl };
       holds = λ i store at. absurd (none-at i store at);
-    }, λ may intact. inl refl);
+    },
+    λ may intact. inl refl,
+  );
   ends = refl;
 }
 
