@@ -1,6 +1,6 @@
 //! Words of command lines, and the ranges of their options.
-ghost use Rattle.std.specs.Prelude.{[], ◌∷◌, ◌≡◌, List, None, Some, codes, false, suc, true};
-ghost use Rattle.clap.specs.Words.{Text, subcommand_of};
+ghost use Rattle.std.specs.Prelude.{[], ◌∷◌, ◌≡◌, List, None, Some, codes, false, suc, true, ℕ};
+ghost use Rattle.clap.specs.Words.{subcommand_of};
 ghost use Rattle.clap.specs.declared.error.kind.ErrorKind.TheVariants.{DisplayHelp, DisplayVersion};
 ghost use Rattle.clap.specs.declared.error.kind.ErrorKind.TheVariants.{OutOfMemory};
 ghost use Rattle.clap.specs.declared.error.kind.ErrorKind.TheVariants.{UnknownArgument};
@@ -60,7 +60,7 @@ pub fn numbers_of_options()
 /// The options of a command line are unfit only if the parser finds no fault in its words.
 pub fn lines_that_are_not_unfit()
     ensures no_task { IsUnfit (codes "urbd" ∷ []) → ⊥ }
-    ensures a_task { (words : List Text) → task_named (subcommand_of urbd_app words) ≡ Some Replay
+    ensures a_task { (words : List (List ℕ)) → task_named (subcommand_of urbd_app words) ≡ Some Replay
         → IsUnfit words → ⊥ }
 {}
 
