@@ -40,6 +40,7 @@ IMPORT = re.compile(
     r"^((?:ghost )?)use Rattle\.(\w+)\.specs\.((?:internal\.)?\w+)\.\{([^}]*)\}(;?)\n",
     re.MULTILINE,
 )
+WORD = re.compile(r"[^\W\d][\w-]*")
 # Where the prover reports on a clause of a copy, and on the text of a version.
 SIZE = re.compile(r"\blimits (\d+) ")
 LONG = re.compile(r"\bfilled \d+ \d+ \d{4}")  # a payload of over 1,000 bytes
@@ -193,6 +194,19 @@ def unshared(proof: str, origins: dict[str, dict[str, str]]) -> str:
         return "".join(f"use Rattle.{at}.{{{', '.join(own)}}}\n" for at, own in lines.items())
 
     return SHARED.sub(split, proof)
+
+
+def is_nameable(use: str, text: str) -> bool:
+    """Whether a copy with this text may have this import.
+
+    It may name a type that its crate doesn't export only in that crate. So it imports of what a
+    crate declares only what it cites.
+    """
+    if ".specs.declared." not in use:
+        return True
+    names = use.partition("{")[2].partition("}")[0] or use
+    words = set(WORD.findall(text))
+    return any(WORD.findall(it)[-1] in words for it in names.split(",") if it.strip())
 
 
 def redirected(text: str, moved: dict[tuple[str, str, str], str]) -> str:
@@ -408,9 +422,6 @@ class Room:
         here = [it for it in specs.files[file].names if (*file, it) in moved]
         made = [it for (*place, it) in specs.made_by if tuple(place) == file]
         others = [it for it in [*specs.files[file].names, *made] if (*file, it) not in moved]
-        uses = "".join(it.group(0) for it in USES.finditer(specs.files[file].text))
-        uses = redirected(uses.replace("pub use", "use"), moved)
-        uses += f"use {own}.{{{', '.join(others)}}}\n" if others else ""
         texts, begin = [], 0
         for it in here:
             definition = Definition(*file, it)
@@ -419,6 +430,10 @@ class Room:
             begin = specs.inside.get(definition, 0)
             is_wrong = definition == trial.version.definition
             texts.append(trial.version.text if is_wrong else own_lines(specs.text[definition]))
+        all_uses = [it.group(0) for it in USES.finditer(specs.files[file].text)]
+        uses = "".join(it for it in all_uses if is_nameable(it, " ".join(texts)))
+        uses = redirected(uses.replace("pub use", "use"), moved)
+        uses += f"use {own}.{{{', '.join(others)}}}\n" if others else ""
         text = "\n\n".join([f"-- A wrong version.\n{uses}", *texts]) + "\n"
         text = with_imports(text, trial.version.needs)
         (self.folder / f"specs/internal/{name}.antt").write_text(text)

@@ -157,6 +157,13 @@ class Copies(JudgingTest):
         moved = {("urb_a", "World", "Good"): "Rattle.urb_a.specs.internal.Wrong1_0"}
         self.assertEqual(judging.redirected(text, moved), expected)
 
+    def test_a_copy_imports_of_what_a_crate_declares_only_what_it_cites(self) -> None:
+        own = "use Rattle.urb_a.specs.declared.batch.End."
+        self.assertFalse(judging.is_nameable(f"{own}{{End}}\n", "works n (job ∷ jobs)"))
+        self.assertTrue(judging.is_nameable(f"{own}{{End}}\n", "f : End → ℕ"))
+        self.assertTrue(judging.is_nameable(f"{own}TheVariants as end\n", "f end.Full = 1"))
+        self.assertTrue(judging.is_nameable("use Rattle.urb_a.specs.World.{Good}\n", ""))
+
     def test_clauses_that_rest_on_a_declaration(self) -> None:
         self.assertEqual(judging.resting_on(PROOF, "helper"), ["returns-clause-of_any"])
         self.assertEqual(judging.resting_on(PROOF, "kept"), ["returns-clause-of_any"])

@@ -1,1 +1,2 @@
 pub mod ExampleWorlds
+pub mod RunExamples

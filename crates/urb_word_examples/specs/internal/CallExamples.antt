@@ -1,6 +1,6 @@
 -- Words of the worked examples: calls of simple nodes, and readers.
-use Rattle.std.specs.Prelude.{List, Option, Some, [], suc, ℕ, ◌+◌, ◌≡◌}
-use Rattle.urb_client.specs.Requests.{Ask, Asked, Read}
+use Rattle.std.specs.Prelude.{List, None, Option, Some, [], suc, ℕ, ◌+◌, ◌≡◌}
+use Rattle.urb_client.specs.Requests.{Ask, Asked, Read, Submit}
 use Rattle.urb_client.specs.Responses.{Done, Refused, Said}
 use Rattle.urb_client.specs.declared.request.Control.TheVariants.{Status}
 use Rattle.urb_options.specs.Addresses.{Address}
@@ -42,6 +42,15 @@ is_silent old asked answer new = ⊥
 -- calls that leave their caller as it is, whatever they are answered
 abbrev pub is_steady : ℕ → Asked → Option Said → ℕ → Type 0
 is_steady old asked answer new = new ≡ old
+
+-- calls that leave their caller as it is, and get no response
+abbrev pub is_mute : ℕ → Address → Asked → Option Said → ℕ → Type 0
+is_mute old at asked answer new = (answer ≡ None) × (new ≡ old)
+
+-- calls that tell client 7 that its next number is 1, and answer nothing else
+abbrev pub tells_number : ℕ → Asked → Option Said → ℕ → Type 0
+tells_number old asked answer new =
+    (asked ≡ Submit 7 0 []) × (answer ≡ Some (Refused 7 1)) × (new ≡ old)
 
 -- calls that ask for the entry at place 5, and are refused
 abbrev pub refuses_fifth : ℕ → Asked → Option Said → ℕ → Type 0

@@ -4,7 +4,6 @@ use Rattle.urb_stable.specs.Entries.{Entry}
 use Rattle.urb_world.specs.Scenes.{Scene}
 use Rattle.urb_world.specs.World.{image_of, opened}
 use Rattle.urb_world.specs.internal.Examples.{limits, pending}
-use Rattle.urb_world.specs.internal.Scripts.{message}
 use Rattle.urb_script.specs.Commands.{Command, Submit, Tick}
 use Rattle.urb_script.specs.Steps.{answer, new_scene}
 

@@ -7,7 +7,7 @@ ghost use Rattle.urb_cli.specs.Calls.{Fails, Insists, Steps};
 ghost use Rattle.urb_cli.specs.Publishing.{Gives, HasEnded, TakesLine};
 ghost use Rattle.urb_word_examples.specs.internal.CallExamples.{adds, answers_sixth, asking, counts};
 ghost use Rattle.urb_word_examples.specs.internal.CallExamples.{no_end, no_text, stays};
-ghost use Rattle.urb_word_examples.specs.internal.CallExamples.{any_end, any_text, never};
+ghost use Rattle.urb_word_examples.specs.internal.CallExamples.{any_end, any_text, is_mute, never};
 
 /// Steps follow one another, and a request is sent again after each call without a response.
 pub fn calls_in_a_row()
@@ -26,6 +26,12 @@ pub fn what_questions_show()
     ensures another_state { AsksEach {S = ℕ} stays (AtPort 1) 0 0 0 1 → ⊥ }
     ensures another_status { AsksEach {S = ℕ} stays (AtPort 1) 0 0 1 0 → ⊥ }
     ensures a_node_without_an_answer { AsksEach {S = ℕ} never (AtPort 1) 0 1 0 0 → ⊥ }
+{}
+
+/// The status for several nodes is that of the first call that didn't end well.
+pub fn statuses_of_several_nodes()
+    ensures that_no_answer_has { AsksEach {S = ℕ} is_mute (AtPort 1) 0 1 7 0 → ⊥ }
+    ensures without_an_answer { AsksEach {S = ℕ} is_mute (AtPort 1) 0 1 0 0 → ⊥ }
 {}
 
 /// A line is taken from the front of an input, and an input ends when no byte is left.

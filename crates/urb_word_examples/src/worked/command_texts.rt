@@ -1,6 +1,6 @@
 //! What a client's commands print.
 ghost use Rattle.std.specs.Fmt.{decimal};
-ghost use Rattle.std.specs.Prelude.{[], ◌∷◌, ◌++◌, ◌≡◌, None, codes};
+ghost use Rattle.std.specs.Prelude.{[], ◌∷◌, ◌++◌, ◌≡◌, None, codes, false, true};
 ghost use Rattle.urb_client.specs.declared.response.NodeState.TheVariants.{Down, Ready, Storing};
 ghost use Rattle.urb_names.specs.Names.{name};
 ghost use Rattle.urb_world.specs.internal.Scripts.{message};
@@ -10,8 +10,8 @@ ghost use Rattle.urb_cli.specs.Advice.{advice_of, detailed_advice, explained_ref
 ghost use Rattle.urb_cli.specs.AskedAddresses.{address_text};
 ghost use Rattle.urb_cli.specs.ClientOutput.{IsShown, entry_line, hex_byte, hex_digit, hex_payload};
 ghost use Rattle.urb_cli.specs.ClientOutput.{state_word, status_line};
-ghost use Rattle.urb_cli.specs.EntryForms.{form_line, json_head, json_line};
-ghost use Rattle.urb_cli.specs.EntryForms.{json_payload, text_line};
+ghost use Rattle.urb_cli.specs.EntryForms.{escaped_byte, form_line, is_shown_as_text, json_head};
+ghost use Rattle.urb_cli.specs.EntryForms.{json_line, json_payload, text_line, text_payload};
 
 /// What a refusal means, and the line that says so.
 pub fn advice_to_persons()
@@ -49,6 +49,22 @@ pub fn lines_of_entries()
     ensures by_the_form_of_json { form_line Json (name 1 2, message 7 3 "a")
         ≡ json_line (name 1 2, message 7 3 "a") }
     ensures nothing_shown { IsShown (λ said. None) ([], 0) → ⊥ }
+{}
+
+/// Which payloads are printed as text, and how they are printed then.
+pub fn payloads_as_text()
+    ensures a_letter { is_shown_as_text (codes "a") ≡ true }
+    ensures a_line_feed { is_shown_as_text (10 ∷ []) ≡ false }
+    ensures bytes_that_are_no_text { is_shown_as_text (255 ∷ []) ≡ false }
+    ensures after_a_word { text_payload (codes "a") ≡ codes "text a" }
+    ensures digits_after_a_word { text_payload (10 ∷ []) ≡ codes "hex 0a" }
+    ensures in_a_line { text_line (name 1 2, message 7 3 "a") ≡ decimal 1 ++ (46 ∷ (decimal 2
+        ++ (32 ∷ (decimal 7 ++ (32 ∷ (decimal 3 ++ (32 ∷ (codes "text a" ++ 10 ∷ [])))))))) }
+    ensures a_quotation_mark { escaped_byte 34 ≡ 92 ∷ 34 ∷ [] }
+    ensures another_byte { escaped_byte 97 ≡ 97 ∷ [] }
+    ensures a_member { json_payload (codes "a") ≡ 34 ∷ (codes "text" ++ 34 ∷ 58 ∷ 34 ∷ 97 ∷ 34 ∷ []) }
+    ensures a_member_of_digits { json_payload (10 ∷ []) ≡ 34 ∷ (codes "hex"
+        ++ 34 ∷ 58 ∷ 34 ∷ 48 ∷ 97 ∷ 34 ∷ []) }
 {}
 
 /// The line of a node's state.

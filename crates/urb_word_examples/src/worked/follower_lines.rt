@@ -1,8 +1,11 @@
 //! What a follower of a log prints, and how it ends.
 ghost use Rattle.std.specs.Prelude.{[], ◌∷◌, None, Some, ℕ};
+ghost use Rattle.urb_client.specs.declared.frame_write.WriteFailed.{WriteFailed};
 ghost use Rattle.urb_client.specs.Responses.{Listing, Refused};
 ghost use Rattle.urb_cli.specs.ClientOutput.{entry_line};
-ghost use Rattle.urb_cli.specs.Following.{IsAnswered, IsFollowed, IsRefusedAfter, Prints};
+ghost use Rattle.urb_cli.specs.Following.{BreaksOffAfter, IsAnswered, IsFollowed, IsRefusedAfter};
+ghost use Rattle.urb_cli.specs.Following.{Prints};
+ghost use Rattle.urb_cli.specs.declared.client.stream_fault.StreamFault.TheVariants.{Output};
 ghost use Rattle.urb_word_examples.specs.internal.CallExamples.{answers_sixth, is_silent, is_steady};
 ghost use Rattle.urb_word_examples.specs.internal.CallExamples.{reader, refuses_fifth};
 
@@ -31,4 +34,16 @@ pub fn what_a_follower_prints()
 pub fn how_a_follower_ends()
     ensures refused_without_an_answer { IsRefusedAfter {C = ℕ} is_silent entry_line 0 1 None 0
         None → ⊥ }
+{}
+
+/// The node at hand refuses to give the entry at place 5, and answers nothing else.
+pub fn where_a_follower_ends()
+    ensures refused_at_another_place { IsRefusedAfter {C = ℕ} refuses_fifth entry_line 0 1 None 0
+        None → ⊥ }
+    ensures refused_without_a_line { IsRefusedAfter {C = ℕ} refuses_fifth entry_line 0 5 (Some [])
+        0 (Some []) → ⊥ }
+    ensures broken_off_at_another_place { (failed : WriteFailed) → BreaksOffAfter {C = ℕ}
+        refuses_fifth entry_line 0 1 None (Output failed) 0 None → ⊥ }
+    ensures broken_off_without_an_answer { (failed : WriteFailed) → BreaksOffAfter {C = ℕ}
+        is_silent entry_line 0 1 None (Output failed) 0 None → ⊥ }
 {}

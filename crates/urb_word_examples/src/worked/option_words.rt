@@ -1,14 +1,15 @@
 //! Words of command lines, and the ranges of their options.
-ghost use Rattle.std.specs.Prelude.{[], ◌∷◌, ◌≡◌, None, Some, codes, false, suc, true};
+ghost use Rattle.std.specs.Prelude.{[], ◌∷◌, ◌≡◌, List, None, Some, codes, false, suc, true, ℕ};
+ghost use Rattle.clap.specs.Words.{subcommand_of};
 ghost use Rattle.clap.specs.declared.error.kind.ErrorKind.TheVariants.{DisplayHelp, DisplayVersion};
 ghost use Rattle.clap.specs.declared.error.kind.ErrorKind.TheVariants.{OutOfMemory};
 ghost use Rattle.clap.specs.declared.error.kind.ErrorKind.TheVariants.{UnknownArgument};
 ghost use Rattle.urb_names.specs.declared.limits.TheConstants.{MAX_CAP, MAX_NODES};
-ghost use Rattle.urb_options.specs.CommandLine.{HasStatus, parser_status};
+ghost use Rattle.urb_options.specs.CommandLine.{HasStatus, parser_status, urbd_app};
 ghost use Rattle.urb_options.specs.Doors.{mode_in, octal_value};
 ghost use Rattle.urb_options.specs.OptionRanges.{AreInRange, AreServiceRanges};
 ghost use Rattle.urb_options.specs.ProgramFaults.{fault_of_run};
-ghost use Rattle.urb_options.specs.Tasks.{Replay, form_named, is_decimal, task_named};
+ghost use Rattle.urb_options.specs.Tasks.{IsUnfit, Replay, form_named, is_decimal, task_named};
 ghost use Rattle.urb_options.specs.declared.entry_form_kind.EntryForm.TheVariants.{Hex, Json, Text};
 ghost use Rattle.urb_options.specs.declared.faults.Fault.TheVariants as fault;
 ghost use Rattle.urb_options.specs.declared.limits.TheConstants.{MAX_BASE_PORT, MAX_CONNECTIONS};
@@ -34,7 +35,7 @@ pub fn ranges_of_groups()
     ensures a_minute_too_many { AreServiceRanges 4 (suc MAX_IDLE_MINUTES) → ⊥ }
 {}
 
-/// Numbers and words of options.
+/// Modes and words of options.
 pub fn words_of_options()
     ensures the_last_octal_digit { octal_value 55 ≡ Some 7 }
     ensures before_the_first_octal_digit { octal_value 47 ≡ None }
@@ -42,14 +43,25 @@ pub fn words_of_options()
     ensures a_mode { mode_in (codes "640") ≡ Some 416 }
     ensures a_mode_behind_a_zero { mode_in (codes "0640") ≡ Some 416 }
     ensures a_mode_behind_a_one { mode_in (codes "1640") ≡ None }
-    ensures a_number { is_decimal (codes "12") ≡ true }
-    ensures no_digits { is_decimal [] ≡ false }
-    ensures a_letter { is_decimal (codes "1a") ≡ false }
     ensures text { form_named (codes "text") ≡ Some Text }
     ensures hexadecimal { form_named (codes "hex") ≡ Some Hex }
     ensures no_form { form_named (codes "xml") ≡ None }
     ensures a_replay { task_named (Some (codes "replay", [])) ≡ Some Replay }
     ensures no_task { task_named (Some (codes "play", [])) ≡ None }
+{}
+
+/// Which words are numbers in decimal.
+pub fn numbers_of_options()
+    ensures two_digits { is_decimal (codes "12") ≡ true }
+    ensures no_digits { is_decimal [] ≡ false }
+    ensures a_letter { is_decimal (codes "1a") ≡ false }
+{}
+
+/// The options of a command line are unfit only if the parser finds no fault in its words.
+pub fn lines_that_are_not_unfit()
+    ensures no_task { IsUnfit (codes "urbd" ∷ []) → ⊥ }
+    ensures a_task { (words : List (List ℕ)) → task_named (subcommand_of urbd_app words) ≡ Some Replay
+        → IsUnfit words → ⊥ }
 {}
 
 /// The statuses of command lines that are refused, and the faults of runs.

@@ -1,11 +1,13 @@
 //! What a publisher of texts sends and writes, and how it ends.
 ghost use Rattle.std.specs.Prelude.{[], ◌∷◌, None, Some, ℕ};
-ghost use Rattle.urb_cli.specs.Publishing.{EndsAfter, IsPublished, IsRefusedAtOnce};
+ghost use Rattle.urb_cli.specs.Publishing.{BreaksOffAfter, EndsAfter, IsPublished};
+ghost use Rattle.urb_cli.specs.Publishing.{IsRefusedAtOnce};
 ghost use Rattle.urb_cli.specs.Publishing.{IsRefusedNext, IsTooLong, Publishes};
 ghost use Rattle.urb_cli.specs.declared.client.stream_fault.StreamEnd.TheVariants.{Done, Refused};
+ghost use Rattle.urb_cli.specs.declared.client.stream_fault.StreamFault.TheVariants.{AtEnd};
 ghost use Rattle.urb_word_examples.specs.internal.CallExamples.{any_end, any_text, empty_text};
 ghost use Rattle.urb_word_examples.specs.internal.CallExamples.{is_silent, is_steady, no_end};
-ghost use Rattle.urb_word_examples.specs.internal.CallExamples.{no_text, progress};
+ghost use Rattle.urb_word_examples.specs.internal.CallExamples.{no_text, progress, tells_number};
 
 /// A text is published once: it was given, accepted and told of, and the number goes on by one.
 pub fn what_is_published()
@@ -56,4 +58,14 @@ pub fn how_a_publisher_ends()
     ensures without_a_number { Publishes any_text any_end is_silent 7 0 0 None Done 0 0 None
         → ⊥ }
     ensures without_an_end { Publishes any_text no_end is_steady 7 0 0 None Done 0 0 None → ⊥ }
+{}
+
+/// The node at hand tells client 7 its next number, and accepts no text. So nothing is published.
+pub fn what_nobody_accepts()
+    ensures done_after_another_call { Publishes any_text any_end tells_number 7 0 0 None Done 0 5
+        None → ⊥ }
+    ensures broken_off_at_the_last_number { BreaksOffAfter any_text any_end tells_number 7
+        (progress 1 None) AtEnd 0 0 None → ⊥ }
+    ensures broken_off_with_another_output { BreaksOffAfter any_text any_end tells_number 7
+        (progress 4294967295 None) AtEnd 0 0 (Some []) → ⊥ }
 {}

@@ -4,7 +4,9 @@ ghost use Rattle.std.specs.Fmt.{decimal};
 ghost use Rattle.urb_names.specs.Names.{name};
 ghost use Rattle.urb_stable.specs.declared.memory.Failure.TheVariants.{New, Old};
 ghost use Rattle.urb_stable.specs.declared.record.Record.TheVariants.{Pend};
-ghost use Rattle.urb_world.specs.internal.Examples.{limits};
+ghost use Rattle.urb_world.specs.EventEffects.{StoresNothing};
+ghost use Rattle.urb_world.specs.Step as event;
+ghost use Rattle.urb_world.specs.internal.Examples.{certified, limits};
 ghost use Rattle.urb_world.specs.internal.Scripts.{message};
 ghost use Rattle.urb_script.specs.Commands.{Crash, Fail, Group, Log, Restart, Stored, Tick};
 ghost use Rattle.urb_script.specs.Steps.{IsFailureOf, IsLater, MayCome, Plays, answer, found_at};
@@ -51,4 +53,13 @@ pub fn which_command_may_come()
         (new_scene (limits 4 10)) → ⊥ }
     ensures a_store_that_fails { IsFailureOf (Stored 1) (Fail 1 New) }
     ensures a_failure_that_stays { IsFailureOf (Fail 1 New) (Fail 1 New) → ⊥ }
+{}
+
+/// A receipt and a restart may store a record, and no other event does.
+pub fn events_that_store_nothing()
+    ensures a_tick { StoresNothing (event.Tick 1) }
+    ensures a_failed_store { StoresNothing (event.Fail 1) }
+    ensures a_crash { StoresNothing (event.Crash 1) }
+    ensures a_receipt { StoresNothing (event.Commit 1 1 (certified 1 1)) → ⊥ }
+    ensures a_restart { StoresNothing (event.Restart 1 []) → ⊥ }
 {}

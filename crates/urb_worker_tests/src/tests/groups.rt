@@ -359,36 +359,32 @@ fn a_tick_brings_what_a_node_that_was_down_has_missed(rt: HostRuntime) -> Result
 
 #[test]
 fn a_message_comes_to_each_of_seven_nodes(rt: HostRuntime) -> Result<(), Fail> {
-    let (went_well, _) = run_with_client(&rt, rt.alloc(), 7, 20, Course::SendsToAll).ok_or(
-        "memory",
-    )?;
+    let ran = run_with_client(&rt, rt.alloc(), 7, 20, Course::SendsToAll);
+    let (went_well, _) = ran.ok_or("memory")?;
     assert!(rt; went_well);
     Ok(())
 }
 
 #[test]
 fn clients_that_may_not_crash_a_node_are_refused(rt: HostRuntime) -> Result<(), Fail> {
-    let (went_well, _) = run_with_client(&rt, rt.alloc(), 1, 20, Course::MayNotCrash).ok_or(
-        "memory",
-    )?;
+    let ran = run_with_client(&rt, rt.alloc(), 1, 20, Course::MayNotCrash);
+    let (went_well, _) = ran.ok_or("memory")?;
     assert!(rt; went_well);
     Ok(())
 }
 
 #[test]
 fn clients_that_break_off_cost_no_thread(rt: HostRuntime) -> Result<(), Fail> {
-    let (went_well, _) = run_with_client(&rt, rt.alloc(), 1, 20, Course::BreaksOff).ok_or(
-        "memory",
-    )?;
+    let ran = run_with_client(&rt, rt.alloc(), 1, 20, Course::BreaksOff);
+    let (went_well, _) = ran.ok_or("memory")?;
     assert!(rt; went_well);
     Ok(())
 }
 
 #[test]
 fn a_node_serves_on_after_errors_of_its_listener(rt: HostRuntime) -> Result<(), Fail> {
-    let (went_well, _) = run_with_client(&rt, rt.alloc(), 1, 20, Course::HasErrors).ok_or(
-        "memory",
-    )?;
+    let ran = run_with_client(&rt, rt.alloc(), 1, 20, Course::HasErrors);
+    let (went_well, _) = ran.ok_or("memory")?;
     assert!(rt; went_well);
     Ok(())
 }

@@ -1,6 +1,6 @@
 //! Workers that give a desk no answer, or the outcome of another job.
 
-ghost use Rattle.std.specs.Prelude.{◌≡◌, ◌≤◌, length};
+ghost use Rattle.std.specs.Prelude.{◌≡◌, ◌≤◌, IfSome, length};
 ghost use Rattle.urb_client.specs.Requests.{IsAsked, asked_by};
 ghost use Rattle.urb_show.specs.Houses.{IsNamed};
 
@@ -94,7 +94,9 @@ fn is_refused<K: HouseName, R: Wait + Clock>(
 }
 
 // A submit, to be refused.
-fn submit_of(alloc: Global) -> Option<Request> {
+fn submit_of(alloc: Global) -> Option<Request>
+    ensures { IfSome result (λ submit. IsAsked (asked_by submit)) }
+{
     Some(Request::Submit {
         client: ClientId::new(7)?,
         number: 1,
