@@ -24,7 +24,7 @@ loop-ticket-preserved g c =
           (c.loop-ticket.invariant.keeps start opening h);
       own =
           rw (map_push (λ ticket. ticket.job) c.loop-ticket.yielded c.in-Some.ticket)
-          (learns_more c.args.setting.now.mends c.args.node
+          (learns_more g.K.HouseName.origin c.args.setting.now.mends c.args.node
           (each c.loop-ticket.yielded (λ ticket. ticket.job)) c.in-Some.ticket.job
           c.args.state.now.own c.loop-ticket.state.own c.do_ticket-tally.new.state.own
           c.loop-ticket.invariant.own c.do_ticket-tally.ensures.own);
